@@ -1,0 +1,2 @@
+-- The statements on the worked figures.
+pub mod Figures
