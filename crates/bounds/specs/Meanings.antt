@@ -7,7 +7,7 @@ use Rattle.bounds.specs.declared.line.Line.{Line}
 use Rattle.bounds.specs.declared.side.Side.{Side}
 use Rattle.bounds.specs.declared.side.Side.the-variants.{Below, Above}
 
--- what a bound says of a line, a reference and a value: true where the value passes
+-- a bound's answers: line, then reference, then value; true where the value passes
 abbrev pub Meaning : Type 0
 Meaning = Line → ℤ → ℤ → Bool
 

@@ -1,6 +1,6 @@
 // What a bound is.
-ghost use mathlib.Core.Path.{_≡_};
 ghost use mathlib.Core.Bool.{true};
+ghost use mathlib.Core.Path.{_≡_};
 ghost use lib.IntN.{ℤ};
 ghost use Rattle.bounds.specs.declared.line.Line.{Line};
 ghost use Rattle.bounds.specs.declared.side.Side.{Side};
@@ -9,12 +9,12 @@ ghost use Rattle.bounds.specs.Meanings.{Meaning, Harmless};
 use crate::line::Line;
 use crate::side::Side;
 
-// Told a line, a reference and a value, a bound says whether the value passes.
+// Asked about a value beside its reference, a bound answers by the line whether it passes.
 pub trait Bound {
     // the side on which a value does no harm
     ghost harmless: { Side };
 
-    // which values pass, for each line and reference
+    // the values that it lets pass, under each line and beside each reference
     ghost meaning: { Self → Meaning };
 
     // the reference itself, and what lies on its harmless side, passes under every line

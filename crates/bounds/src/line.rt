@@ -1,11 +1,11 @@
 // The line that a bound is told.
-ghost use mathlib.Core.Path.{_≡_};
 ghost use mathlib.Core.Bool.{true};
+ghost use mathlib.Core.Path.{_≡_};
 ghost use Rattle.bounds.specs.Ranges.{in-range};
 
 pub mod checked;
 
-// A percent of the reference, a cap and a floor in the value's unit, each in its range.
+// A percent of the reference, and in the unit of the value a cap and a floor, each in its range.
 #[derive(Clone, Copy)]
 pub struct Line {
     pub percent: u32,

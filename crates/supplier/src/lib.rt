@@ -1,6 +1,6 @@
 // A bound that another company supplies, in the places made for ours.
-ghost use mathlib.Core.Path.{_≡_};
 ghost use mathlib.Core.Bool.{true};
+ghost use mathlib.Core.Path.{_≡_};
 ghost use lib.IntN.{pos, _-ℤ_};
 ghost use lib.Signed.{leZ, _≤ℤ_};
 ghost use Rattle.bounds.specs.declared.side.Side.the-variants.{Below};
