@@ -1,0 +1,4 @@
+-- The statements on curves.
+pub mod Steps
+pub mod Curves
+pub mod Rows

@@ -1,0 +1,5 @@
+// Offer and reference curves.
+pub mod curve;
+pub mod order;
+pub mod row;
+pub mod step;
