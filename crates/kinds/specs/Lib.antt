@@ -1,0 +1,3 @@
+-- The statements on kinds of parameters.
+pub mod Conduct
+pub mod Judged
