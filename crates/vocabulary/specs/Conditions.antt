@@ -1,5 +1,5 @@
 -- The condition in force, and what else a standing says.
-use mathlib.Core.Bool.{Bool, cond}
+use mathlib.Core.Bool.{Bool, true, false, cond}
 use Prim.Native.Nat.{ℕ, _/_, _%_}
 use lib.Dec.{eqb}
 use Rattle.std.specs.declared.option.Option.{Option}
@@ -30,6 +30,15 @@ outside-zones (Some Dynamic) = Some Dynamic
 outside-zones (Some Broad) = Some Broad
 outside-zones (Some GlobalPower) = Some GlobalPower
 outside-zones (Some Intertie) = None
+
+-- an uncompetitive intertie zone
+abbrev pub in-zone : Option Condition → Bool
+in-zone None = false
+in-zone (Some Narrow) = false
+in-zone (Some Dynamic) = false
+in-zone (Some Broad) = false
+in-zone (Some GlobalPower) = false
+in-zone (Some Intertie) = true
 
 abbrev standing-condition : Option Standing → Product → Option Condition
 standing-condition None product = None

@@ -1,7 +1,7 @@
 // Conditions of an area: narrow, dynamic and broad constrained area, global market power, uncompetitive intertie zone.
 ghost use mathlib.Core.Path.{_≡_};
 ghost use Rattle.vocabulary.specs.Numbers.{condition-number};
-ghost use Rattle.vocabulary.specs.Conditions.{lowest as lowest-of, outside-zones as outside-zones-of};
+ghost use Rattle.vocabulary.specs.Conditions.{lowest as lowest-of, outside-zones as outside-zones-of, in-zone as in-zone-of};
 
 #[derive(Clone, Copy, PartialEq, Eq)]
 pub enum Condition {
@@ -51,6 +51,15 @@ impl Condition {
         match condition {
             Some(Condition::Intertie) => None,
             other => other,
+        }
+    }
+
+    pub fn in_zone(condition: Option<Condition>) -> bool
+        ensures { λ r. ⌜ r ≡ in-zone-of condition ⌝ }
+    {
+        match condition {
+            Some(Condition::Intertie) => true,
+            _ => false,
         }
     }
 }
