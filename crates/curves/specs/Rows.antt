@@ -3,12 +3,16 @@ use mathlib.Core.Bool.{Bool, cond, _&&_}
 use mathlib.Core.List.{List}
 use Prim.Native.Nat.{ℕ}
 use lib.Dec.{leb}
-use lib.ListN.{take}
+use lib.IntN.{pos}
+use lib.ListN.{take, replicate}
 use Rattle.std.specs.declared.option.Option.{Option}
 use Rattle.std.specs.declared.option.Option.the-variants.{Some, None}
 use Rattle.curves.specs.declared.step.Step.{Step}
 use Rattle.curves.specs.declared.row.Row.{Row}
-use Rattle.curves.specs.Steps.{in-order, last-end}
+use Rattle.curves.specs.Steps.{step, in-order, last-end}
+
+abbrev pub empty-row : Row
+empty-row = record { steps = replicate 20 (step (pos 0) 0); count = 0 }
 
 abbrev pub row-steps : Row → List Step
 row-steps row = take (row .count) (row .steps)

@@ -1,7 +1,6 @@
 // A row of the table, where a curve is kept.
-ghost use mathlib.Core.List.{[]};
 ghost use mathlib.Core.Path.{_≡_};
-ghost use Rattle.curves.specs.Rows.{row-steps};
+ghost use Rattle.curves.specs.Rows.{empty-row};
 use crate::step::Step;
 
 // The first `count` of the steps; an empty row has none.
@@ -13,7 +12,7 @@ pub struct Row {
 
 impl Row {
     pub fn empty() -> Row
-        ensures { λ r. ⌜ row-steps r ≡ [] ⌝ }
+        ensures { λ r. ⌜ r ≡ empty-row ⌝ }
     {
         Row {
             steps: [Step { price: 0, end: 0 }; 20],

@@ -18,13 +18,6 @@ pub struct Curves<B> {
     pub bound: B,
 }
 
-// One step, against the reference price where it ends.
-fn step_passes<B: Bound>(bound: &B, line: &Line, reference: &Curve, step: &Step) -> bool
-    ensures { λ r. ⌜ r ≡ step-passes (B·Bound .meaning (now (bound .entry)) (now (line .entry))) (steps-of (now (reference .entry))) (now (step .entry)) ⌝ }
-{
-    bound.passes(line, reference.price_at(step.end), step.price)
-}
-
 pub impl<B: Bound> Kind for Curves<B> as CurvesKind {
     type Value = Curve;
 
@@ -38,7 +31,7 @@ pub impl<B: Bound> Kind for Curves<B> as CurvesKind {
 
     fn passes(&self, line: &Line, reference: &Curve, offer: &Curve) -> bool {
         for step in offer.steps() {
-            if !step_passes(&self.bound, line, reference, step) {
+            if !self.step_passes(line, reference, step) {
                 return false;
             }
         }
@@ -51,11 +44,19 @@ pub impl<B: Bound> Kind for Curves<B> as CurvesKind {
 }
 
 impl<B: Bound> Curves<B> {
+    // One step, against the reference price where it ends.
+    pub fn step_passes(&self, line: &Line, reference: &Curve, step: &Step) -> bool
+        ensures { λ r. ⌜ r ≡ step-passes (B·Bound .meaning (now (self .entry) .bound) (now (line .entry))) (steps-of (now (reference .entry))) (now (step .entry)) ⌝ }
+    {
+        self.bound
+            .passes(line, reference.price_at(step.end), step.price)
+    }
+
     // What a step adds to the widths that fail, where the step before ends.
     fn failed_width(&self, line: &Line, reference: &Curve, before: u32, step: &Step) -> u32
         ensures { λ r. ⌜ r ≡ cond (step-passes (B·Bound .meaning (now (self .entry) .bound) (now (line .entry))) (steps-of (now (reference .entry))) (now (step .entry))) 0 (now (step .entry) .end - before) ⌝ }
     {
-        if step_passes(&self.bound, line, reference, step) {
+        if self.step_passes(line, reference, step) {
             0
         } else {
             step.end.saturating_sub(before)

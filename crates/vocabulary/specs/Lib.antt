@@ -4,3 +4,4 @@ pub mod Tests
 pub mod Verdicts
 pub mod Readings
 pub mod Conditions
+pub mod Empty

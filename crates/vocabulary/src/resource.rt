@@ -5,6 +5,7 @@ ghost use Rattle.std.specs.Options.{mapped};
 ghost use Rattle.std.specs.Slices.{found};
 ghost use Rattle.curves.specs.Curves.{steps-of};
 ghost use Rattle.vocabulary.specs.Readings.{values-of, own-of};
+ghost use Rattle.vocabulary.specs.Empty.{empty-resource};
 ghost use Rattle.vocabulary.specs.Conditions.{condition-in-force, entity-of, multiplier-of};
 ghost use Rattle.vocabulary.specs.Tests.{most-steps};
 use crate::amount::Amount;
@@ -55,6 +56,27 @@ impl Values {
 }
 
 impl Resource {
+    // A resource of which nothing is known.
+    pub fn empty() -> Resource
+        ensures { λ r. ⌜ r ≡ empty-resource ⌝ }
+    {
+        let values = Values {
+            curves: [Row::empty(); 4],
+            amounts: [None; 4],
+        };
+        Resource {
+            standing: None,
+            offer: values,
+            reference: values,
+            quantities: [None; 4],
+            prices: [None; 12],
+            remark: Remark {
+                bytes: [0; 120],
+                count: 0,
+            },
+        }
+    }
+
     // The condition in force for a product.
     pub fn condition(&self, product: Product) -> Option<Condition>
         ensures { λ r. ⌜ r ≡ condition-in-force (own-of (now (self .entry))) product ⌝ }

@@ -1,2 +1,0 @@
--- The statements on the worked figures.
-pub mod Figures
