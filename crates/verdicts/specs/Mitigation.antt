@@ -16,11 +16,18 @@ use Rattle.vocabulary.specs.Verdicts.{failed}
 use Rattle.vocabulary.specs.Tests.{curve-test, amount-test}
 use Rattle.vocabulary.specs.Readings.{Lines, Own, line-under}
 use Rattle.vocabulary.specs.Conditions.{condition-in-force, outside-zones}
-use Rattle.verdicts.specs.Rules.{impact, amount-meaning}
+use Rattle.verdicts.specs.Rules.{curve-conduct, amount-conduct, impact, amount-meaning}
 
 -- outside uncompetitive intertie zones, where the product's impact fails
 abbrev pub replaceable : Meaning → Lines → Own → Product → Bool
 replaceable impacts lines o product = isSome (outside-zones (condition-in-force o product)) && failed (impact impacts lines o product)
+
+-- conduct fails, and the product's impact too
+abbrev pub curve-substituted : Meaning → Meaning → Lines → Own → Product → Bool
+curve-substituted curves impacts lines o product = failed (curve-conduct curves lines o product) && replaceable impacts lines o product
+
+abbrev pub amount-substituted : Meaning → Meaning → Meaning → Lines → Own → Amount → Bool
+amount-substituted amounts impacts quantities lines o amount = failed (amount-conduct amounts quantities lines o amount) && replaceable impacts lines o Energy
 
 abbrev pub mitigated-curve : Meaning → Meaning → Lines → Own → Product → Option (List Step)
 mitigated-curve curves impacts lines o product =

@@ -1,14 +1,10 @@
-// What a resource's offer becomes.
-ghost use mathlib.Core.Bool.{_&&_};
+// What a resource's offer becomes. A mitigated value differs from the offer exactly where conduct and impact fail.
 ghost use mathlib.Core.Path.{_≡_};
 ghost use Rattle.std.specs.Options.{mapped};
 ghost use Rattle.curves.specs.Curves.{steps-of};
 ghost use Rattle.kinds.specs.Judged.{Differ-when};
-ghost use Rattle.vocabulary.specs.declared.product.Product.the-variants.{Energy};
 ghost use Rattle.vocabulary.specs.Readings.{own-of, lines-of};
-ghost use Rattle.vocabulary.specs.Verdicts.{failed};
-ghost use Rattle.verdicts.specs.Rules.{curve-conduct, amount-conduct};
-ghost use Rattle.verdicts.specs.Mitigation.{replaceable as replaceable-of, mitigated-curve as mitigated-curve-of, mitigated-amount as mitigated-amount-of};
+ghost use Rattle.verdicts.specs.Mitigation.{replaceable as replaceable-of, curve-substituted, amount-substituted, mitigated-curve as mitigated-curve-of, mitigated-amount as mitigated-amount-of};
 use crate::impact::impact;
 use bounds::bound::Bound;
 use curves::curve::Curve;
@@ -45,7 +41,7 @@ pub fn mitigated_curve<C: Bound, I: Bound>(
     product: Product,
 ) -> Option<Curve>
     ensures value { λ r. ⌜ mapped steps-of r ≡ mitigated-curve-of (C·Bound .meaning (now (curves .entry) .bound)) (I·Bound .meaning (now (impact .entry) .bound)) (lines-of (now (lines .entry))) (own-of (now (resource .entry))) product ⌝ }
-    ensures differs { λ r. ⌜ Differ-when (failed (curve-conduct (C·Bound .meaning (now (curves .entry) .bound)) (lines-of (now (lines .entry))) (own-of (now (resource .entry))) product) && replaceable-of (I·Bound .meaning (now (impact .entry) .bound)) (lines-of (now (lines .entry))) (own-of (now (resource .entry))) product) (mapped steps-of r) (own-of (now (resource .entry)) .offer .curve product) ⌝ }
+    ensures differs { λ r. ⌜ Differ-when (curve-substituted (C·Bound .meaning (now (curves .entry) .bound)) (I·Bound .meaning (now (impact .entry) .bound)) (lines-of (now (lines .entry))) (own-of (now (resource .entry))) product) (mapped steps-of r) (own-of (now (resource .entry)) .offer .curve product) ⌝ }
 {
     let line = line(lines, resource.condition(product), product.curve_test());
     let replaceable = replaceable(impact, lines, resource, product);
@@ -67,7 +63,7 @@ pub fn mitigated_amount<A: Bound, I: Bound, Q: Bound>(
     amount: Amount,
 ) -> Option<i32>
     ensures value { λ r. ⌜ r ≡ mitigated-amount-of (A·Bound .meaning (now (amounts .entry) .bound)) (I·Bound .meaning (now (impact .entry) .bound)) (Q·Bound .meaning (now (quantities .entry) .bound)) (lines-of (now (lines .entry))) (own-of (now (resource .entry))) amount ⌝ }
-    ensures differs { λ r. ⌜ Differ-when (failed (amount-conduct (A·Bound .meaning (now (amounts .entry) .bound)) (Q·Bound .meaning (now (quantities .entry) .bound)) (lines-of (now (lines .entry))) (own-of (now (resource .entry))) amount) && replaceable-of (I·Bound .meaning (now (impact .entry) .bound)) (lines-of (now (lines .entry))) (own-of (now (resource .entry))) Energy) r (own-of (now (resource .entry)) .offer .amount amount) ⌝ }
+    ensures differs { λ r. ⌜ Differ-when (amount-substituted (A·Bound .meaning (now (amounts .entry) .bound)) (I·Bound .meaning (now (impact .entry) .bound)) (Q·Bound .meaning (now (quantities .entry) .bound)) (lines-of (now (lines .entry))) (own-of (now (resource .entry))) amount) r (own-of (now (resource .entry)) .offer .amount amount) ⌝ }
 {
     let line = line(lines, resource.condition(Product::Energy), amount.test());
     let replaceable = replaceable(impact, lines, resource, Product::Energy);
