@@ -1,10 +1,10 @@
 // Charges, in twentieths of a cent.
 ghost use mathlib.Core.Path.{_≡_};
-ghost use Prim.Native.Nat.{_*_, _^_, _<_, _≤_};
 ghost use Rattle.std.specs.Options.{mapped};
 ghost use Rattle.curves.specs.Curves.{steps-of};
 ghost use Rattle.vocabulary.specs.Readings.{own-of, lines-of};
 ghost use Rattle.charges.specs.Charges.{paid as paid-of, shortage-charge as shortage-charge-of, widths as widths-of, width-charge as width-charge-of};
+ghost use Prim.Native.Nat.{_*_, _^_, _<_, _≤_};
 use crate::share::known;
 use bounds::bound::Bound;
 use bounds::line::Line;

@@ -1,10 +1,10 @@
 // All that is found of one product of one resource.
 ghost use mathlib.Core.Path.{_≡_};
-ghost use Prim.Native.Nat.{_<_, _^_};
 ghost use Rattle.vocabulary.specs.Readings.{own-of, lines-of};
 ghost use Rattle.charges.specs.Tables.{owns-of};
 ghost use Rattle.charges.specs.Groups.{Shares-of, Small};
 ghost use Rattle.charges.specs.Findings.{held-back, overpriced as overpriced-of, meant-by, charge as charge-of, finding as finding-of};
+ghost use Prim.Native.Nat.{_<_, _^_};
 use crate::charge::shortage_charge;
 use crate::charge::width_charge;
 use crate::group::entity_quantity;

@@ -1,9 +1,9 @@
 // The groups of a product: what their members offer together.
 ghost use mathlib.Core.Path.{_≡_};
-ghost use Prim.Native.Nat.{_≤_, _<_};
 ghost use Rattle.vocabulary.specs.Readings.{lines-of};
 ghost use Rattle.charges.specs.Groups.{Shares-of, Small, total, share-offered, share-reference, group-verdict as group-verdict-of, entity-quantity as entity-quantity-of};
 ghost use Rattle.charges.specs.Tables.{owns-of};
+ghost use Prim.Native.Nat.{_≤_, _<_};
 use crate::share::Group;
 use crate::share::Share;
 use bounds::bound::Bound;

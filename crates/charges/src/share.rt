@@ -1,8 +1,8 @@
 // What a resource brings to the groups of a product, worked out once.
 ghost use mathlib.Core.Path.{_≡_};
-ghost use Prim.Native.Nat.{_≤_};
 ghost use Rattle.vocabulary.specs.Readings.{own-of, lines-of};
 ghost use Rattle.charges.specs.Groups.{known as known-of, group-of, share as share-of, is-group, brought as brought-of};
+ghost use Prim.Native.Nat.{_≤_};
 use bounds::bound::Bound;
 use kinds::amounts::Amounts;
 use verdicts::quantity::offered;

@@ -2,11 +2,11 @@
 ghost use mathlib.Core.Bool.{cond};
 ghost use mathlib.Core.List.{List};
 ghost use mathlib.Core.Path.{_≡_};
-ghost use Prim.Native.Nat.{_≤_, _-_};
 ghost use Rattle.curves.specs.declared.step.Step.{Step};
 ghost use Rattle.curves.specs.Curves.{steps-of};
 ghost use Rattle.curves.specs.Steps.{last-end, substitute as substitute-of};
 ghost use Rattle.kinds.specs.Conduct.{step-passes, all-pass, failed-widths};
+ghost use Prim.Native.Nat.{_≤_, _-_};
 use crate::kind::Kind;
 use bounds::bound::Bound;
 use bounds::line::Line;

@@ -1,6 +1,5 @@
 // What the table holds of a resource, and how it is read.
 ghost use mathlib.Core.Path.{_≡_};
-ghost use Prim.Native.Nat.{_≤_};
 ghost use Rattle.std.specs.Options.{mapped};
 ghost use Rattle.std.specs.Slices.{found};
 ghost use Rattle.curves.specs.Curves.{steps-of};
@@ -8,6 +7,7 @@ ghost use Rattle.vocabulary.specs.Readings.{values-of, own-of};
 ghost use Rattle.vocabulary.specs.Empty.{empty-resource};
 ghost use Rattle.vocabulary.specs.Conditions.{condition-in-force, entity-of, multiplier-of};
 ghost use Rattle.vocabulary.specs.Tests.{most-steps};
+ghost use Prim.Native.Nat.{_≤_};
 use crate::amount::Amount;
 use crate::condition::Condition;
 use crate::product::Product;
