@@ -1,0 +1,3 @@
+mod Spelling
+mod Lending
+mod Backs

@@ -1,0 +1,3 @@
+-- The statements on writing.
+pub mod Buffers
+pub mod Backs
