@@ -1,0 +1,2 @@
+-- The statements on books.
+pub mod Ledgers

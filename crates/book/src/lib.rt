@@ -1,0 +1,3 @@
+// The hour book.
+pub mod book;
+pub mod calls;

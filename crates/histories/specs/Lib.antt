@@ -1,0 +1,2 @@
+-- The statements on histories.
+pub mod Acts

@@ -1,0 +1,3 @@
+// Lists of calls, replayed on new books.
+pub mod call;
+pub mod replay;

@@ -1,0 +1,10 @@
+use native.Mathlib.Omega.{arith}
+use Rattle.table.specs.Tables.{slots-of}
+use Rattle.table.proofs.Tables.{exists, record-written}
+use Rattle.table.proofs.hour.Table.take_standing.Needs as need
+
+pub returns : need.returns
+unfolding slots-of
+returns c =
+    let there = exists (c .args .resource) 0 32 1 (c .pre .slot) in
+    record-written (c .args .self .now .lines) (c .args .self .now .resources) (c .args .resource) _ 2 0 _ (λ e. omega arith) (omega arith) (c .pre .slot) (c .take-standing .ensures)

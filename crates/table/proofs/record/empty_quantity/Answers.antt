@@ -1,0 +1,12 @@
+use mathlib.Core.Path.{refl, _∙_}
+use native.Mathlib.Omega.{arith}
+use Rattle.std.specs.declared.option.Option.the-variants.{None}
+use Rattle.bodies.specs.Numbers.{word-bytes}
+use Rattle.table.specs.Holding.{holds}
+use Rattle.table.proofs.Fullness.{some-mapped}
+use Rattle.table.proofs.Records.{quantity-changed}
+use Rattle.table.proofs.record.empty_quantity.Needs as need
+
+pub returns : need.returns
+unfolding holds
+returns c = record { changed = quantity-changed (c .args .resource .now) (c .args .product) _ None (omega arith) refl; was = c .is-some .ensures ∙ some-mapped word-bytes _ }
