@@ -1,4 +1,5 @@
--- The record of a resource of which nothing is known.
+-- The record of a resource of which nothing is known, and what a table reads past its end.
+use mathlib.Core.List.{[]}
 use lib.ListN.{replicate}
 use Rattle.std.specs.declared.option.Option.the-variants.{None}
 use Rattle.curves.specs.Rows.{empty-row}
@@ -21,3 +22,13 @@ empty-resource = record {
   prices = replicate 12 None;
   remark = empty-remark;
 }
+
+abbrev noValues : Values
+noValues = record { curves = []; amounts = [] }
+
+abbrev noRemark : Remark
+noRemark = record { bytes = []; count = 0 }
+
+-- what a table reads past its end
+abbrev pub noResource : Resource
+noResource = record { standing = None; offer = noValues; reference = noValues; quantities = []; prices = []; remark = noRemark }
