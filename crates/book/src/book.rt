@@ -2,6 +2,7 @@
 use table::hour::Table;
 use verdicts::places::Places;
 
+#[derive(Drop)]
 pub struct Book<C, A, I, Q> {
     pub table: Table,
     pub is_open: bool,

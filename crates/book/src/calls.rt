@@ -4,6 +4,9 @@ ghost use Rattle.entries.specs.Entries.{head};
 ghost use Rattle.entries.specs.Files.{told};
 ghost use Rattle.entries.specs.Table.{kinds};
 ghost use Rattle.ledger.specs.Ledger.{posted, cleared, loaded, closed, empty as no-calls, fault as fault-of, step};
+ghost use Rattle.ledger.specs.Slots.{entry-file};
+ghost use Rattle.table.specs.Tables.{slots-of};
+ghost use Rattle.files.specs.Placing.{Written};
 ghost use Rattle.book.specs.Ledgers.{ledger-of};
 use crate::book::Book;
 use bodies::fault::Fault;
@@ -13,6 +16,8 @@ use bounds::bound::BoundBelow;
 use entries::reader::check_file;
 use entries::reader::read_posted;
 use entries::slots::head_fault;
+use files::file::write_file;
+use files::hour::TableSlots;
 use table::fill::fill;
 use table::hour::Table;
 use verdicts::places::Places;
@@ -97,5 +102,12 @@ impl<C: BoundBelow, A: BoundBelow, I: BoundBelow, Q: BoundAbove> Book<C, A, I, Q
         } else {
             Err(refusal(Fault::Empty))
         }
+    }
+
+    // Writes the entry file from a place of the buffer on, and says how long it is.
+    pub fn write_entries(&self, out: &mut [u8], place: usize) -> Result<usize, Refusal>
+        ensures { λ r. ⌜ Written place (entry-file kinds (slots-of (now (self .entry) .table))) (now (out .entry)) (now (out .exit)) r ⌝ }
+    {
+        write_file(&self.table, out, place)
     }
 }

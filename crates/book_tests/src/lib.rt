@@ -1,0 +1,3 @@
+// Books driven by their calls.
+mod fullest;
+mod orders;

@@ -1,0 +1,4 @@
+mod Lending
+mod Running
+mod Drawn
+mod Contents

@@ -1,0 +1,3 @@
+-- The statements on the file of an hour's slots.
+pub mod Fillings
+pub mod Placing
