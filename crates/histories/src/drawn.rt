@@ -1,12 +1,12 @@
 // A book's files, held with their lengths.
 ghost use mathlib.Core.Path.{_≡_};
 ghost use lib.ListN.{length};
-ghost use Prim.Native.Nat.{_≤_};
 ghost use Rattle.std.specs.Orderings.{Decides};
 ghost use Rattle.entries.specs.Table.{kinds};
 ghost use Rattle.ledger.specs.Slots.{Well-formed, entry-file as entry-file-of};
 ghost use Rattle.table.specs.Tables.{slots-of};
 ghost use Rattle.histories.specs.Drawn.{bytes-of, Holds};
+ghost use Prim.Native.Nat.{_≤_};
 use book::book::Book;
 use bounds::bound::BoundAbove;
 use bounds::bound::BoundBelow;
