@@ -13,29 +13,17 @@ use Rattle.curves.specs.declared.row.Row.{Row}
 use Rattle.curves.specs.Rows.{row-steps}
 use Rattle.vocabulary.specs.declared.resource.Remark.{Remark}
 use Rattle.bodies.specs.Bodies.{remark-bytes, remark-fault}
-use Rattle.bodies.specs.Curves.{step-bytes, curve-bytes}
+use Rattle.bodies.specs.Curves.{curve-bytes}
 use Rattle.entries.specs.Entries.{head}
 use Rattle.entries.specs.Files.{head-fault}
-use Rattle.bodies.specs.Numbers.{word-bytes}
 use Rattle.entries.specs.Table.{kinds}
 use Rattle.writers.specs.Buffers.{onto}
+use Rattle.writers.proofs.Lending.{length-curve}
 use Rattle.table.specs.Holding.{remark-held}
 use Rattle.table.proofs.Tables.{exists}
 use Rattle.files.specs.declared.filled.Filled.{Filled}
 use Rattle.files.specs.declared.filled.Filled.the-variants.{Curve}
 use Rattle.files.specs.Fillings.{filled-bytes, slot-bytes, Sound}
-
-length-step : (s : Step) → length (step-bytes s) ≡ 8
-unfolding word-bytes
-length-step s = refl
-
-length-curve : (ss : List Step) → length (curve-bytes ss) ≡ 8 * length ss
-length-curve [] = refl
-length-curve (s ∷ ss) =
-    let a = length-append (step-bytes s) (curve-bytes ss) in
-    let b = length-step s in
-    let c = length-curve ss in
-    omega arith
 
 pub length-steps : (row : Row) → row .count ≤ length (row .steps) → 8 * row .count ≡ length (curve-bytes (row-steps row))
 length-steps row h = sym (length-curve (row-steps row) ∙ ap (λ n. 8 * n) (length-take-le (row .count) (row .steps) h))

@@ -10,7 +10,7 @@ use borrow.Rule.Slice.PartMut.{putMid}
 use Rattle.std.proofs.shelf.Tests.{cases-eq}
 use Rattle.ledger.specs.Views.{joined-below}
 use Rattle.writers.specs.Buffers.{onto}
-use Rattle.files.proofs.Lending.{behind, length-onto}
+use Rattle.writers.proofs.Lending.{behind, length-onto}
 
 pub joined-none : (f : ℕ → List ℕ) → joined-below 0 f ≡ []
 unfolding joined-below

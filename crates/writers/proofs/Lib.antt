@@ -1,3 +1,3 @@
 mod Spelling
-mod Lending
+pub mod Lending
 mod Backs

@@ -36,7 +36,8 @@ impl Curve {
     }
 
     pub fn row(&self) -> Row
-        ensures { λ r. ⌜ row-steps r ≡ steps-of (now (self .entry)) ⌝ }
+        ensures steps { λ r. ⌜ row-steps r ≡ steps-of (now (self .entry)) ⌝ }
+        ensures count { λ r. ⌜ r .count ≡ now (self .entry) .count ⌝ }
     {
         Row {
             steps: self.steps,

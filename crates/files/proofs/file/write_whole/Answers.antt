@@ -5,7 +5,7 @@ use borrow.Author.Needs.{needs}
 use Rattle.entries.specs.Files.{mark}
 use Rattle.writers.specs.Buffers.{onto}
 use Rattle.files.specs.Placing.{all-entries}
-use Rattle.files.proofs.Lending.{behind}
+use Rattle.writers.proofs.Lending.{behind}
 use Rattle.files.proofs.Drawn.{file-drawn, file-length}
 use Rattle.files.proofs.file.write_whole.Needs as need
 
