@@ -16,3 +16,4 @@ pub mod Amounts
 pub mod Mitigating
 pub mod Agreeing
 pub mod Neighbouring
+pub mod Listed

@@ -6,3 +6,4 @@ pub mod Laws
 pub mod Readings
 pub mod Mitigation
 pub mod Promises
+pub mod Listing

@@ -1,5 +1,6 @@
 // The laws of slots, entry files and ledgers: each function's contract is a theorem.
 ghost use Rattle.ledger.specs.Laws.{Places, Reached, Reloads, Injective, Bounded, By-sections, Views};
+ghost use Rattle.ledger.specs.Listing.{Equal-listings, Neighbours-lines};
 ghost use Rattle.ledger.specs.Promises.{Read, Mitigates, Equal-meanings, Neighbours};
 
 // Heads and slots name each other.
@@ -57,6 +58,14 @@ pub fn meanings_stand() -> u8
 // A call for one resource leaves those that share no entity with it.
 pub fn neighbours_stand() -> u8
     ensures { λ _. ⌜ Neighbours ⌝ }
+{
+    0
+}
+
+// The lines of the listing: equal meanings draw the same, and neighbours' lines stay.
+pub fn listings_stand() -> u8
+    ensures meanings { λ _. ⌜ Equal-listings ⌝ }
+    ensures neighbours { λ _. ⌜ Neighbours-lines ⌝ }
 {
     0
 }
