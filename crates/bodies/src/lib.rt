@@ -1,4 +1,6 @@
 // Bodies of entries: what their bytes say, and why some are refused.
+#![tactic(auto)]
+
 pub mod amounts;
 pub mod fault;
 pub mod lines;

@@ -1,3 +1,5 @@
 // The hour book.
+#![tactic(auto)]
+
 pub mod book;
 pub mod calls;

@@ -1,4 +1,6 @@
 // Bounds: whether a value passes against a reference, under a line.
+#![tactic(auto)]
+
 pub mod bound;
 pub mod ceiling;
 pub mod exemption;

@@ -1,4 +1,6 @@
 // Groups of resources, charges, and all that is found of a product.
+#![tactic(auto)]
+
 pub mod charge;
 pub mod finding;
 pub mod group;

@@ -1,4 +1,6 @@
 // Offer and reference curves.
+#![tactic(auto)]
+
 pub mod curve;
 pub mod order;
 pub mod row;

@@ -1,4 +1,6 @@
 // The worked figures, asked of the code and compared with what they should come to.
+#![tactic(auto)]
+
 mod bound;
 mod curve;
 mod quantity;

@@ -1,4 +1,6 @@
 // The file of an hour's slots.
+#![tactic(auto)]
+
 pub mod entry;
 pub mod file;
 pub mod filled;

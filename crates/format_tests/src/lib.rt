@@ -1,4 +1,6 @@
 // The format at its edges: each fault where it begins, and none just before.
+#![tactic(auto)]
+
 pub mod asked;
 mod curves;
 mod files;

@@ -1,4 +1,6 @@
 // Lists of calls, replayed on new books.
+#![tactic(auto)]
+
 pub mod again;
 pub mod call;
 pub mod compare;

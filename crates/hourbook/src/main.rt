@@ -1,4 +1,6 @@
 // Reads an entry file from standard input, and prints its fault or the listing of an hour that holds it.
+#![tactic(auto)]
+
 use answering::answer::{MOST, answer};
 use std::io::{Read, Write};
 

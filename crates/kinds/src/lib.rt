@@ -1,4 +1,6 @@
 // Kinds of parameters: what their values are, how conduct is tested, and what stands in for an offer.
+#![tactic(auto)]
+
 pub mod amounts;
 pub mod curves;
 pub mod judged;

@@ -1,4 +1,6 @@
 // The laws of slots, entry files and ledgers: each function's contract is a theorem.
+#![tactic(auto)]
+
 ghost use Rattle.ledger.specs.Laws.{Places, Reached, Reloads, Injective, Bounded, BySections, Views};
 ghost use Rattle.ledger.specs.Listing.{EqualListings, NeighboursLines};
 ghost use Rattle.ledger.specs.Promises.{Read, Mitigates, EqualMeanings, Neighbours};

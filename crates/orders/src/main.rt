@@ -1,4 +1,6 @@
 // Two orders of arrival: whether they end alike and, where they do not, which lines of the listing differ.
+#![tactic(auto)]
+
 ghost use Rattle.std.specs.Prelude.{◌<◌};
 
 mod lines;

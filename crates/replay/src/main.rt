@@ -1,4 +1,6 @@
 // Reads a script from standard input, obeys it on a new book, and prints the answers.
+#![tactic(auto)]
+
 use std::io::Read;
 use transcripts::transcript::transcript;
 

@@ -1,4 +1,6 @@
 // Readings of the rules that would give wrong money, each pinned by a test.
+#![tactic(auto)]
+
 #[cfg(test)]
 mod tests {
     use curves::step::Step;

@@ -1,4 +1,6 @@
 // The published scenarios, each loaded into a new book whose files are compared with those worked out by hand.
+#![tactic(auto)]
+
 mod compare;
 mod list;
 mod outcome;

@@ -1,4 +1,6 @@
 // Lines, scripts and their parting at the edges.
+#![tactic(auto)]
+
 #[cfg(test)]
 mod tests {
     use histories::call::Call;

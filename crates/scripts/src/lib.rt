@@ -1,4 +1,6 @@
 // Calls on a book written as text, one a line.
+#![tactic(auto)]
+
 pub mod call;
 pub mod command;
 mod decimal;

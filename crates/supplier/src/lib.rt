@@ -1,4 +1,6 @@
 // A bound that another company supplies, in the places made for ours.
+#![tactic(auto)]
+
 ghost use Rattle.std.specs.Prelude.{◌≡◌, true, pos, ◌-ℤ◌, ◌≤ℤ◌, int_le};
 ghost use Rattle.bounds.specs.declared.side.Side.TheVariants.{Below};
 ghost use Rattle.std.proofs.Common.{rules};

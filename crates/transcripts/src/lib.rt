@@ -1,4 +1,6 @@
 // Scripts obeyed on a new book, with a line of answer for each line.
+#![tactic(auto)]
+
 pub mod obeying;
 mod texts;
 pub mod transcript;

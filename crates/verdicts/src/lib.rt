@@ -1,4 +1,6 @@
 // The verdicts on one resource, and its mitigated offer.
+#![tactic(auto)]
+
 pub mod conduct;
 pub mod impact;
 pub mod mitigation;

@@ -1,4 +1,6 @@
 // The words of the market, and the record of one resource.
+#![tactic(auto)]
+
 pub mod amount;
 pub mod condition;
 pub mod lines;

@@ -1,4 +1,6 @@
 // The worked figures: what each asks, what it should come to, and what the code answers.
+#![tactic(auto)]
+
 pub mod bound_figure;
 pub mod curve_figure;
 pub mod hour;
