@@ -4,9 +4,9 @@ use Rattle.std.proofs.lemmas.Int.{to_z-of_z}
 use Rattle.bodies.specs.Numbers.{number_bytes}
 use Rattle.bodies.proofs.amounts.read_amount.Goals as goal
 
-pub returns-then-in-amount-range : goal.returns-then-in-amount-range
-returns-then-in-amount-range c =
-    let read = c.read-number-value in
+pub returns-then-in_amount_range : goal.returns-then-in_amount_range
+returns-then-in_amount_range c =
+    let read = c.read_number-value in
     let f : SFits w32 read.result = search rules in
     let is = to_z-of_z w32 read.result f in
     (search rules, (is ∙ read.ensures.value, ap number_bytes is ∙ read.ensures.again ∙ take_all 4 c.args.body.now (omega arith)))

@@ -4,13 +4,13 @@ use Rattle.bodies.specs.Numbers.{number_bytes}
 use Rattle.bodies.proofs.Wholes.{three_words}
 use Rattle.bodies.proofs.lines.read_line.Goals as goal
 
-pub returns-then-in-range : goal.returns-then-in-range
-returns-then-in-range c =
-    let percent = c.read-word.ensures in
-    let limit = c.read-word-2.ensures in
-    let floor = c.read-number.ensures in
-    let f : SFits w32 c.read-number.result = search rules in
-    let signed = to_z-of_z w32 c.read-number.result f in (
+pub returns-then-in_range : goal.returns-then-in_range
+returns-then-in_range c =
+    let percent = c.read_word.ensures in
+    let limit = c.read_word-2.ensures in
+    let floor = c.read_number.ensures in
+    let f : SFits w32 c.read_number.result = search rules in
+    let signed = to_z-of_z w32 c.read_number.result f in (
       search rules,
       (
         (λ i. record { percent = percent.value i; «cap» = limit.value i; floor = (signed ∙ floor.value) i }),

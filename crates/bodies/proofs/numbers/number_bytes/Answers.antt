@@ -7,5 +7,5 @@ pub returns : goal.returns
 unfolding number
 returns c =
     let signed = to_z-of_z w32 c.args.z c.ranges.z in
-    let is = c.cast-unsigned.ensures ∙ ap (of_z w32) signed in
-    record { value = c.word-bytes.ensures.value ∙ ap word_bytes is; back = ap (to_z w32) (c.word-bytes.ensures.back ∙ is) ∙ signed }
+    let is = c.cast_unsigned.ensures ∙ ap (of_z w32) signed in
+    record { value = c.word_bytes.ensures.value ∙ ap word_bytes is; back = ap (to_z w32) (c.word_bytes.ensures.back ∙ is) ∙ signed }

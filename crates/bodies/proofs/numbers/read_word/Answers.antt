@@ -7,8 +7,8 @@ pub returns : goal.returns
 unfolding word
 returns c =
     let at = c.args.at in
-    let byte = c.type-inv.bytes in
-    let value : c.from-be-bytes.result ≡ word (drop at c.args.bytes.now) = search (rules, get_or-drop) in
+    let byte = c.type_inv.bytes in
+    let value : c.from_be_bytes.result ≡ word (drop at c.args.bytes.now) = search (rules, get_or-drop) in
     record {
       value = value;
       again = ap word_bytes value ∙ word_again_at c.args.bytes.now at c.requires

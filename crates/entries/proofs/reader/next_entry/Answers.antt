@@ -8,10 +8,10 @@ use Rattle.entries.proofs.reader.next_entry.Goals as goal
 pub returns-then-place-cursor : goal.returns-then-place-cursor
 returns-then-place-cursor c = (omega arith, refl, left_none c.args.file.now c.args.cursor.now (omega arith))
 
-pub returns-in-default : goal.returns-in-default
-returns-in-default c =
+pub returns-in_default : goal.returns-in_default
+returns-in_default c =
     let at = c.args.cursor.now.at in
-    let cut = rest_short kinds c.args.file.now at _ (c.requires.limit ∙ c.requires.end) c.in-default.ensures in
+    let cut = rest_short kinds c.args.file.now at _ (c.requires.limit ∙ c.requires.end) c.in_default.ensures in
     (omega arith, (λ i. record { number = cut i; place = at }), refl)
 
 pub returns-in-Ok : goal.returns-in-Ok

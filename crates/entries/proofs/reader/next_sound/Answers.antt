@@ -10,11 +10,11 @@ returns-then-place-cursor c =
     let ends = c.requires.between.limit ∙ c.requires.between.end in
     (omega arith, refl, left_none c.args.file.now c.args.cursor.now (omega arith))
 
-pub returns-in-default : goal.returns-in-default
-returns-in-default c =
+pub returns-in_default : goal.returns-in_default
+returns-in_default c =
     let at = c.args.cursor.now.at in
     let ends = c.requires.between.limit ∙ c.requires.between.end in
-    let cut = rest_short kinds c.args.file.now at _ ends c.in-default.ensures in
+    let cut = rest_short kinds c.args.file.now at _ ends c.in_default.ensures in
     (omega arith, (λ i. record { number = cut i; place = at }), refl)
 
 pub returns-in-Ok : goal.returns-in-Ok

@@ -9,7 +9,7 @@ returns-in-err-write-byte c =
     let bytes = c.args.bytes.now in
     rw p.1 (record {
       text = tt;
-      again = (written_is_hex bytes (λ i. omega (arith, c.type-inv.bytes i)), written_again bytes (λ i. omega (arith, c.type-inv.bytes i)));
+      again = (written_is_hex bytes (λ i. omega (arith, c.type_inv.bytes i)), written_again bytes (λ i. omega (arith, c.type_inv.bytes i)));
     })
 
 pub loop-byte-preserved : goal.loop-byte-preserved
@@ -20,5 +20,5 @@ returns c =
     let bytes = c.args.bytes.now in
     record {
       text = sym (all_written bytes _ c.loop-byte.byte-index c.loop-byte-test.false) ∙ c.loop-byte.invariant;
-      again = (written_is_hex bytes (λ i. omega (arith, c.type-inv.bytes i)), written_again bytes (λ i. omega (arith, c.type-inv.bytes i)));
+      again = (written_is_hex bytes (λ i. omega (arith, c.type_inv.bytes i)), written_again bytes (λ i. omega (arith, c.type_inv.bytes i)));
     }

@@ -11,17 +11,24 @@ made : (all : Curve) (n q : ℕ) (p : ℤ) → SFits w32 p → n < all.count →
     → take (n + 1) (set all.steps n (step (to_z w32 (of_z w32 p)) q)) ≡ substitute (steps_of all) q
 made all n q p f h these e = written all.steps all.count n q _ (omega arith) these (to_z-of_z w32 p f ∙ e)
 
-pub invariant-of-result : goal.invariant-of-result
-invariant-of-result c =
+pub invariant_of-result : goal.invariant_of-result
+invariant_of-result c =
     let all = c.args.self.now in
     let f : SFits w32 c.price_at.result = search rules in
-    let is = made all _ _ _ f c.kept-count-n.ensures.within c.kept-count-n.ensures.these c.price_at.ensures in
-    let end = ap last_end is ∙ substitute_end (steps_of all) c.last-end-quantity.result in
-    (simp length-set all.whole, (omega arith, (omega arith, (all.room, (ap in_order is ∙ substitute_in_order (steps_of all) _ all.ordered, (omega arith, tt))))))
+    let is = made all _ _ _ f c.kept_count-n.ensures.within c.kept_count-n.ensures.these c.price_at.ensures in
+    let end = ap last_end is ∙ substitute_end (steps_of all) c.last_end-quantity.result in
+    record {
+      whole = simp length-set all.whole;
+      some = omega arith;
+      few = omega arith;
+      room = all.room;
+      ordered = ap in_order is ∙ substitute_in_order (steps_of all) _ all.ordered;
+      small = omega arith;
+    }
 
 pub returns : goal.returns
 returns c =
     let all = c.args.self.now in
     let f : SFits w32 c.price_at.result = search rules in
-    let is = made all _ _ _ f c.kept-count-n.ensures.within c.kept-count-n.ensures.these c.price_at.ensures in
-    record { value = is ∙ ap (substitute (steps_of all)) c.last-end-quantity.ensures.value; limit = refl }
+    let is = made all _ _ _ f c.kept_count-n.ensures.within c.kept_count-n.ensures.these c.price_at.ensures in
+    record { value = is ∙ ap (substitute (steps_of all)) c.last_end-quantity.ensures.value; limit = refl }

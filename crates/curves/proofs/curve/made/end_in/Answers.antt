@@ -8,7 +8,7 @@ use Rattle.curves.proofs.curve.made.end_in.Goals as goal
 pub returns : goal.returns
 returns c =
     let row = c.args.row.now in
-    let holds = sym c.if-not-holds-curve.ensures in
+    let holds = sym c.if-not-holds_curve.ensures in
     let whole : length row.steps ≡ 20 = omega arith in
     let read = end_read c.args.limit row whole holds in
     let low = end_low c.args.limit row whole holds in

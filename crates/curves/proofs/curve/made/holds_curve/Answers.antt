@@ -9,7 +9,7 @@ pub returns-then-row-le100000 : goal.returns-then-row-le100000
 returns-then-row-le100000 c =
     let row = c.args.row.now in
     let whole : length row.steps ≡ 20 = omega arith in
-    c.in-order.ensures ∙ ap (λ n. in_order (take n row.steps)) (sub-zero row.count) ∙ holds_in_order c.args.limit row whole (omega arith) (omega arith) (omega arith) (omega arith)
+    c.in_order.ensures ∙ ap (λ n. in_order (take n row.steps)) (sub-zero row.count) ∙ holds_in_order c.args.limit row whole (omega arith) (omega arith) (omega arith) (omega arith)
 
 pub returns-else-row-le100000 : goal.returns-else-row-le100000
 returns-else-row-le100000 c =

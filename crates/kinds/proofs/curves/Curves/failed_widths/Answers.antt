@@ -14,16 +14,16 @@ loop-step-init g c =
     let small = widths_small ask reference (steps_of offer) offer.ordered in
     (zero-add _, subst P (sym c.steps-step-items.ensures) (omega arith))
 
-pub overflow-add-sum : goal.overflow-add-sum
-overflow-add-sum g c =
+pub overflow_add-sum : goal.overflow_add-sum
+overflow_add-sum g c =
     let ask = g.B.Bound.meaning c.args.self.now.bound c.args.line.now in
-    let more = widths_more ask (steps_of c.args.reference.now) _ c.loop-step.step-index _ _ _ c.loop-step.invariant.0 _ c.loop-step-test.true c.failed-width-sum.ensures in
+    let more = widths_more ask (steps_of c.args.reference.now) _ c.loop-step.step-index _ _ _ c.loop-step.invariant.0 _ c.loop-step-test.true c.failed_width-sum.ensures in
     omega (arith, c.loop-step.invariant.1)
 
 pub loop-step-preserved : goal.loop-step-preserved
 loop-step-preserved g c =
     let ask = g.B.Bound.meaning c.args.self.now.bound c.args.line.now in
-    (widths_more ask (steps_of c.args.reference.now) _ c.loop-step.step-index _ _ _ c.loop-step.invariant.0 _ c.loop-step-test.true c.failed-width-sum.ensures, c.loop-step.invariant.1)
+    (widths_more ask (steps_of c.args.reference.now) _ c.loop-step.step-index _ _ _ c.loop-step.invariant.0 _ c.loop-step-test.true c.failed_width-sum.ensures, c.loop-step.invariant.1)
 
 pub returns : goal.returns
 returns g c =
