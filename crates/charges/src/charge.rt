@@ -9,7 +9,7 @@ use crate::share::known;
 use bounds::bound::Bound;
 use bounds::line::Line;
 use curves::curve::Curve;
-use kinds::curves::Curves;
+use kinds::curve_kind::Curves;
 use verdicts::quantity::offered;
 use vocabulary::lines::{Terms, line};
 use vocabulary::product::Product;

@@ -9,7 +9,7 @@ use crate::charge::{shortage_charge, width_charge};
 use crate::group::entity_quantity;
 use crate::share::Share;
 use bounds::bound::{Bound, BoundAbove, BoundBelow};
-use kinds::curves::Curves;
+use kinds::curve_kind::Curves;
 use verdicts::conduct::curve_conduct;
 use verdicts::impact::{impact, quantity_impact};
 use verdicts::places::Places;

@@ -2,7 +2,7 @@
 #![tactic(auto)]
 
 pub mod asked;
-mod curves;
+mod curve_entries;
 mod files;
 mod heads;
 mod lengths;

@@ -2,7 +2,7 @@
 #![tactic(auto)]
 
 pub mod amounts;
-pub mod curves;
+pub mod curve_kind;
 pub mod judged;
 pub mod kind;
 pub mod mitigated;

@@ -5,7 +5,7 @@ ghost use Rattle.verdicts.specs.Rules.{curve_conduct as curve_conduct_of, amount
 
 use bounds::bound::Bound;
 use kinds::amounts::Amounts;
-use kinds::curves::Curves;
+use kinds::curve_kind::Curves;
 use kinds::judged::judged;
 use vocabulary::amount::Amount;
 use vocabulary::lines::{Terms, line};

@@ -10,7 +10,7 @@ use crate::impact::impact;
 use bounds::bound::Bound;
 use curves::curve::Curve;
 use kinds::amounts::Amounts;
-use kinds::curves::Curves;
+use kinds::curve_kind::Curves;
 use kinds::mitigated::mitigated;
 use vocabulary::amount::Amount;
 use vocabulary::condition::Condition;

@@ -6,7 +6,7 @@ use bounds::ceiling::Ceiling;
 use bounds::exemption::Exemption;
 use bounds::shortfall::Shortfall;
 use kinds::amounts::Amounts;
-use kinds::curves::Curves;
+use kinds::curve_kind::Curves;
 
 // Curves, amounts and impact take bounds harmless below; ramp rates and quantities one harmless above.
 #[derive(Clone, Copy)]

@@ -11,7 +11,7 @@ use bounds::line::Line;
 use curves::curve::Curve;
 use curves::row::Row;
 use curves::step::Step;
-use kinds::curves::Curves;
+use kinds::curve_kind::Curves;
 use verdicts::mitigation::mitigated_curve;
 use verdicts::places::standard;
 use vocabulary::condition::Condition;

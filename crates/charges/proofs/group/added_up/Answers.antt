@@ -7,14 +7,14 @@ use Rattle.charges.proofs.group.added_up.Goals as goal
 pub loop-i-init : goal.loop-i-init
 loop-i-init c = (sym (total_none _), sym (total_none _))
 
-pub overflow-add-offered : goal.overflow-add-offered
-overflow-add-offered c =
+pub overflow_add-offered : goal.overflow_add-offered
+overflow_add-offered c =
     let fits = offered_small c.args.shares.now c.requires c.args.group in
     let sum = sums_small _ c.loop-i.i _ (omega arith) fits c.loop-i.invariant.0 in
     omega (arith, fits c.loop-i.i c.loop-i-test.true, c.brought-offered.ensures)
 
-pub overflow-add-reference : goal.overflow-add-reference
-overflow-add-reference c =
+pub overflow_add-reference : goal.overflow_add-reference
+overflow_add-reference c =
     let fits = reference_small c.args.shares.now c.requires c.args.group in
     let sum = sums_small _ c.loop-i.i _ (omega arith) fits c.loop-i.invariant.1 in
     omega (arith, fits c.loop-i.i c.loop-i-test.true, c.brought-reference.ensures)

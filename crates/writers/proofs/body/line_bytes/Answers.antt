@@ -11,7 +11,7 @@ returns c =
     let t = c.args.terms.now in
     let f : SFits w32 t.floor = search rules in
     let floor = c.number_bytes.ensures.value ∙ ap number_bytes (to_z-of_z w32 t.floor f) in
-    let spelled = three_words _ _ t.percent t.«cap» c.word-bytes.ensures.value c.word-bytes-2.ensures.value _ (of_z w32 t.floor) floor in
-    let percent = ap word (sym c.word-bytes.ensures.value) ∙ c.word-bytes.ensures.back in
-    let limit = ap word (sym c.word-bytes-2.ensures.value) ∙ c.word-bytes-2.ensures.back in
+    let spelled = three_words _ _ t.percent t.«cap» c.word_bytes.ensures.value c.word_bytes-2.ensures.value _ (of_z w32 t.floor) floor in
+    let percent = ap word (sym c.word_bytes.ensures.value) ∙ c.word_bytes.ensures.back in
+    let limit = ap word (sym c.word_bytes-2.ensures.value) ∙ c.word_bytes-2.ensures.back in
     record { bytes = spelled; back = ap terms_of spelled ∙ terms_back t percent limit f }

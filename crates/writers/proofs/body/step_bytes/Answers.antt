@@ -9,4 +9,4 @@ returns c =
     let s = c.args.step in
     let f : SFits w32 s.price = search rules in
     let price = c.number_bytes.ensures.value ∙ ap number_bytes (to_z-of_z w32 s.price f) in
-    two_words _ _ (of_z w32 s.price) s.end price c.word-bytes.ensures.value
+    two_words _ _ (of_z w32 s.price) s.end price c.word_bytes.ensures.value

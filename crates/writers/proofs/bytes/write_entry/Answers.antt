@@ -9,5 +9,5 @@ pub returns : goal.returns
 returns c =
     let h = head c.args.kind c.args.first c.args.sub in
     let body = c.args.body.now in
-    let written = behind c.args.out.now _ _ (head_bytes h (length body)) body _ c.write-head-at.ensures.len c.write-head-at.ensures.bytes c.write-bytes.ensures.bytes in
+    let written = behind c.args.out.now _ _ (head_bytes h (length body)) body _ c.write_head-at.ensures.len c.write_head-at.ensures.bytes c.write_bytes.ensures.bytes in
     record { len = omega arith; bytes = written; back = ap (entry_at 0) written ∙ entry_back h body c.args.out.now }

@@ -15,8 +15,8 @@ returns c =
     let n = 8 * c.args.row.now.count in
     let body = curve_bytes (row_steps c.args.row.now) in
     let written =
-    behind out _ _ (head_bytes h n) body _ c.write-head-at.ensures.len c.write-head-at.ensures.bytes c.write-steps.ensures.bytes
-    ∙ headed h n body out (sym c.write-steps.ensures.len ∙ c.write-steps.ensures.whole) in
+    behind out _ _ (head_bytes h n) body _ c.write_head-at.ensures.len c.write_head-at.ensures.bytes c.write_steps.ensures.bytes
+    ∙ headed h n body out (sym c.write_steps.ensures.len ∙ c.write_steps.ensures.whole) in
     let steps = row_steps c.args.row.now in
     record {
       len = omega arith;

@@ -7,8 +7,8 @@ use Rattle.writers.proofs.entry.write_line.Goals as goal
 
 pub returns : goal.returns
 returns c =
-    let written = c.line-bytes.ensures in
-    let said = ap (λ (r : Raw). r.body) c.write-entry.ensures.back ∙ written.bytes in
+    let written = c.line_bytes.ensures in
+    let said = ap (λ (r : Raw). r.body) c.write_entry.ensures.back ∙ written.bytes in
     record {
       len = search rules;
       bytes = search rules;

@@ -9,5 +9,5 @@ use Rattle.writers.proofs.entry.write_number.Goals as goal
 pub returns : goal.returns
 returns c =
     let bytes = c.number_bytes.ensures.value ∙ ap number_bytes (to_z-of_z w32 c.args.value c.ranges.value) in
-    let said = ap (λ (r : Raw). r.body) c.write-entry.ensures.back ∙ bytes in
+    let said = ap (λ (r : Raw). r.body) c.write_entry.ensures.back ∙ bytes in
     record { len = search rules; bytes = search rules; back = subst (NumberBack c.args.value) (sym said) (number_back_law c.args.value c.ranges.value) }

@@ -7,8 +7,8 @@ use Rattle.writers.proofs.entry.write_quantity.Goals as goal
 
 pub returns : goal.returns
 returns c =
-    let written = c.word-bytes.ensures in
-    let said = ap (λ (r : Raw). r.body) c.write-entry.ensures.back ∙ written.value in
+    let written = c.word_bytes.ensures in
+    let said = ap (λ (r : Raw). r.body) c.write_entry.ensures.back ∙ written.value in
     record {
       len = search rules;
       bytes = search rules;

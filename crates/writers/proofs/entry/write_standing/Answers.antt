@@ -7,9 +7,9 @@ use Rattle.writers.proofs.entry.write_standing.Goals as goal
 
 pub returns : goal.returns
 returns c =
-    let said = ap (λ (r : Raw). r.body) c.write-entry.ensures.back ∙ c.standing_bytes.ensures.bytes in
+    let said = ap (λ (r : Raw). r.body) c.write_entry.ensures.back ∙ c.standing_bytes.ensures.bytes in
     record {
       len = omega arith;
-      bytes = c.write-entry.ensures.bytes ∙ ap (λ b. onto (entry_bytes (head 2 c.args.resource 0) b) c.args.out.now) c.standing_bytes.ensures.bytes;
+      bytes = c.write_entry.ensures.bytes ∙ ap (λ b. onto (entry_bytes (head 2 c.args.resource 0) b) c.args.out.now) c.standing_bytes.ensures.bytes;
       back = subst (StandingBack c.args.standing.now) (sym said) (record { value = refl; fault = refl });
     }

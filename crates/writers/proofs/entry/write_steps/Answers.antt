@@ -4,7 +4,7 @@ use Rattle.writers.proofs.entry.write_steps.Goals as goal
 
 pub loop-k-preserved : goal.loop-k-preserved
 loop-k-preserved c =
-    stepped_more c.loop-k.invariant _ (omega arith) _ _ c.step_bytes.ensures c.write-bytes-at.ensures.bytes _ c.write-bytes-at.ensures.len
+    stepped_more c.loop-k.invariant _ (omega arith) _ _ c.step_bytes.ensures c.write_bytes-at.ensures.bytes _ c.write_bytes-at.ensures.len
 
 pub returns : goal.returns
 returns c =

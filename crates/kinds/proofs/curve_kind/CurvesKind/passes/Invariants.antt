@@ -1,7 +1,7 @@
 use Rattle.std.proofs.Common.{◌≡◌, drop}
 use Rattle.curves.specs.Curves.{steps_of}
 use Rattle.kinds.specs.Conduct.{all_pass}
-use Rattle.kinds.proofs.curves.CurvesKind.passes.Given as goal
+use Rattle.kinds.proofs.curve_kind.CurvesKind.passes.Given as goal
 
 -- what is left has the answer for the whole
 abbrev pub invariant-loop-step : goal.invariant-loop-step

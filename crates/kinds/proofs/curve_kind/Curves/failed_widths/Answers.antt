@@ -3,7 +3,7 @@ use Rattle.curves.specs.Curves.{steps_of}
 use Rattle.curves.specs.declared.step.Step.{Step}
 use Rattle.kinds.specs.Conduct.{failed_widths}
 use Rattle.kinds.proofs.Steps.{widths_more, widths_end, widths_small}
-use Rattle.kinds.proofs.curves.Curves.failed_widths.Goals as goal
+use Rattle.kinds.proofs.curve_kind.Curves.failed_widths.Goals as goal
 
 pub loop-step-init : goal.loop-step-init
 loop-step-init g c =

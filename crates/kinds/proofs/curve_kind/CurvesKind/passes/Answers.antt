@@ -2,7 +2,7 @@ use Rattle.std.proofs.Common.{sym, ap, ◌∙◌}
 use Rattle.curves.specs.Curves.{steps_of}
 use Rattle.kinds.specs.Conduct.{all_pass}
 use Rattle.kinds.proofs.Steps.{all_pass_stop, all_pass_more, all_pass_end}
-use Rattle.kinds.proofs.curves.CurvesKind.passes.Goals as goal
+use Rattle.kinds.proofs.curve_kind.CurvesKind.passes.Goals as goal
 
 pub returns-then-not-step_passes : goal.returns-then-not-step_passes
 returns-then-not-step_passes g c =

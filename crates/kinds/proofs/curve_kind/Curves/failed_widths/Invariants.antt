@@ -1,7 +1,7 @@
 use Rattle.std.proofs.Common.{◌≡◌, ◌+◌, ◌≤◌, drop}
 use Rattle.curves.specs.Curves.{steps_of}
 use Rattle.kinds.specs.Conduct.{failed_widths}
-use Rattle.kinds.proofs.curves.Curves.failed_widths.Given as goal
+use Rattle.kinds.proofs.curve_kind.Curves.failed_widths.Given as goal
 
 -- the sum so far and what is left make the whole, which is small
 abbrev pub invariant-loop-step : goal.invariant-loop-step
