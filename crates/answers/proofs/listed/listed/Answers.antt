@@ -10,7 +10,7 @@ pub loop-i-preserved : goal.loop-i-preserved
 loop-i-preserved g c =
     let made = Made (meant_by g.C.Bound.meaning g.A.Bound.meaning g.I.Bound.meaning g.Q.Bound.meaning c.args.places.now) (lines_of c.args.lines.now) (owns_of c.args.table.now) in
     let long : c.loop-i.i < length c.loop-i.answers = omega arith in
-    (simp length-set c.loop-i.invariant.0, set_more made c.loop-i.answers None c.loop-i.i _ long c.loop-i.invariant.1 (record { value = c.listed-one.ensures.value; small = c.listed-one.ensures.small }))
+    (simp length-set c.loop-i.invariant.0, set_more made c.loop-i.answers None c.loop-i.i _ long c.loop-i.invariant.1 (record { value = c.listed_one.ensures.value; small = c.listed_one.ensures.small }))
 
 pub returns : goal.returns
 returns g c = record { value = λ k h. (c.loop-i.invariant.1 k (omega arith)).value; small = λ k h. (c.loop-i.invariant.1 k (omega arith)).small }

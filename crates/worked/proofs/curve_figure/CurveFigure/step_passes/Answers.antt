@@ -13,4 +13,4 @@ returns c =
     c.passes_beside.ensures
     ∙ ap₂ (λ (line : Option Line) (reference : Option (List Step)). passes_beside line reference c.args.step)
     (c.line-line.ensures ∙ ap (λ rows. lines_of rows Broad EnergyCurve) c.lines.ensures)
-    (c.of-row.ensures.steps ∙ ap (curve_in 20) c.row.ensures)
+    (c.of_row.ensures.steps ∙ ap (curve_in 20) c.row.ensures)
