@@ -59,10 +59,10 @@ empty_ranged =
 -- the ghost fields of a table of which one record, or one line, is written
 pub record_stays : (lines : List (Option Terms)) (rs : List Resource) (i : ℕ) (r : Resource) → length rs ≡ 32 → every terms_ranged lines ≡ true → every ranged rs ≡ true
     → (ranged (get_or rs i no_resource) ≡ true → ranged r ≡ true)
-    → (length (set rs i r) ≡ 32) × ((every terms_ranged lines ≡ true) × ((every ranged (set rs i r) ≡ true) × Unit {0}))
+    → record { whole : length (set rs i r) ≡ 32; terms : every terms_ranged lines ≡ true; records : every ranged (set rs i r) ≡ true }
 record_stays lines rs i r whole terms records kept =
-    (length-set rs i r ∙ whole, (terms, (every_set ranged rs i r (kept (every_at ranged rs i no_resource refl records)) records, tt)))
+    record { whole = length-set rs i r ∙ whole; terms = terms; records = every_set ranged rs i r (kept (every_at ranged rs i no_resource refl records)) records }
 
 pub line_stays : (lines : List (Option Terms)) (rs : List Resource) (i : ℕ) (o : Option Terms) → length rs ≡ 32 → every terms_ranged lines ≡ true → every ranged rs ≡ true
-    → terms_ranged o ≡ true → (length rs ≡ 32) × ((every terms_ranged (set lines i o) ≡ true) × ((every ranged rs ≡ true) × Unit {0}))
-line_stays lines rs i o whole terms records fits = (whole, (every_set terms_ranged lines i o fits terms, (records, tt)))
+    → terms_ranged o ≡ true → record { whole : length rs ≡ 32; terms : every terms_ranged (set lines i o) ≡ true; records : every ranged rs ≡ true }
+line_stays lines rs i o whole terms records fits = record { whole = whole; terms = every_set terms_ranged lines i o fits terms; records = records }

@@ -8,22 +8,22 @@ use Rattle.table.proofs.Filling.{left_starts, left_more, left_none, never_refuse
 use Rattle.table.proofs.fill.fill.Goals as goal
 
 pub walk-init : goal.walk-init
-walk-init c = left_starts _ _ _ c.at-first-cursor.ensures.value c.requires
+walk-init c = left_starts _ _ _ c.at_first-cursor.ensures.value c.requires
 
-pub next-sound-requires : goal.next-sound-requires
-next-sound-requires c = record { between = c.walk.invariant.walked.between; sound = sound_here c.walk.invariant c.requires }
+pub next_sound-requires : goal.next_sound-requires
+next_sound-requires c = record { between = c.walk.invariant.walked.between; sound = sound_here c.walk.invariant c.requires }
 
-pub returns-in-default : goal.returns-in-default
-returns-in-default c = never_refused c.walk.invariant c.requires _ _ c.next-sound.ensures c.in-default.not-Ok
+pub returns-in_default : goal.returns-in_default
+returns-in_default c = never_refused c.walk.invariant c.requires _ _ c.next_sound.ensures c.in_default.not-Ok
 
-pub returns-in-default-next : goal.returns-in-default-next
-returns-in-default-next c =
-    let P : Option Entry → Type 0 = λ o. Next kinds c.args.file.now c.walk.cursor c.next-sound.new.cursor (Ok o) in
-    left_none c.walk.invariant (subst P c.in-default-next.is c.in-Ok.ensures).0
+pub returns-in_default-next : goal.returns-in_default-next
+returns-in_default-next c =
+    let P : Option Entry → Type 0 = λ o. Next kinds c.args.file.now c.walk.cursor c.next_sound.new.cursor (Ok o) in
+    left_none c.walk.invariant (subst P c.in_default-next.is c.in-Ok.ensures).0
 
 pub take-requires : goal.take-requires
 take-requires c =
-    let P : Option Entry → Type 0 = λ o. Next kinds c.args.file.now c.walk.cursor c.next-sound.new.cursor (Ok o) in
+    let P : Option Entry → Type 0 = λ o. Next kinds c.args.file.now c.walk.cursor c.next_sound.new.cursor (Ok o) in
     let next = subst P c.in-Some.is c.in-Ok.ensures in
     let held = sound kinds 0 _ next.1 in
     record {
@@ -33,6 +33,6 @@ take-requires c =
 
 pub walk-preserved : goal.walk-preserved
 walk-preserved c =
-    let P : Option Entry → Type 0 = λ o. Next kinds c.args.file.now c.walk.cursor c.next-sound.new.cursor (Ok o) in
+    let P : Option Entry → Type 0 = λ o. Next kinds c.args.file.now c.walk.cursor c.next_sound.new.cursor (Ok o) in
     let next = subst P c.in-Some.is c.in-Ok.ensures in
     left_more c.walk.invariant _ _ next.0 next.1 next.2 next.3 _ c.take.ensures

@@ -20,6 +20,6 @@ returns c =
     record {
       changed = curve_changed c.args.values.now c.args.parameter _ _ (omega arith) (omega arith)
           (ap (λ (w : Row). option_map curve_bytes (curve_in (most_steps c.args.parameter) w)) c.empty.ensures) (ap row_ranged c.empty.ensures);
-      was = c.is-some.ensures ∙ some_mapped steps_of _ ∙ ap is_some (c.of-row.ensures.steps ∙ ap (λ n. curve_in n row) c.most_steps.ensures)
+      was = c.is_some.ensures ∙ some_mapped steps_of _ ∙ ap is_some (c.of_row.ensures.steps ∙ ap (λ n. curve_in n row) c.most_steps.ensures)
           ∙ some_mapped curve_bytes _ ∙ ap is_some (sym (cond-true _ _ _ (lt-ltb c.args.parameter 4 (omega arith))));
     }

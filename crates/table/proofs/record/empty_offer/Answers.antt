@@ -4,4 +4,4 @@ use Rattle.table.proofs.record.empty_offer.Goals as goal
 
 pub returns : goal.returns
 unfolding holds
-returns c = record { changed = offer_changed c.args.resource.now c.args.parameter _ _ c.empty-parameter.ensures.changed; was = c.empty-parameter.ensures.was }
+returns c = record { changed = offer_changed c.args.resource.now c.args.parameter _ _ c.empty_parameter.ensures.changed; was = c.empty_parameter.ensures.was }

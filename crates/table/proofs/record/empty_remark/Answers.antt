@@ -5,4 +5,4 @@ use Rattle.table.proofs.record.empty_remark.Goals as goal
 
 pub returns : goal.returns
 unfolding holds
-returns c = record { changed = remark_changed c.args.resource.now _ _ refl; was = c.has-words.ensures }
+returns c = record { changed = remark_changed c.args.resource.now _ _ refl; was = c.has_words.ensures }

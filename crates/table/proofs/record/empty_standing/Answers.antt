@@ -7,4 +7,4 @@ use Rattle.table.proofs.record.empty_standing.Goals as goal
 
 pub returns : goal.returns
 unfolding holds
-returns c = record { changed = standing_changed c.args.resource.now None _ refl; was = c.is-some.ensures ∙ some_mapped standing_bytes _ }
+returns c = record { changed = standing_changed c.args.resource.now None _ refl; was = c.is_some.ensures ∙ some_mapped standing_bytes _ }

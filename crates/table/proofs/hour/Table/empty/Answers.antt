@@ -11,5 +11,5 @@ pub returns : goal.returns
 unfolding slots_of
 returns c = ap (λ (r : Resource). slots_from (table_holds (replicate 50 None) (replicate 32 r))) c.empty.ensures ∙ table_empty
 
-pub invariant-of-result : goal.invariant-of-result
-invariant-of-result c = (refl, (every_same terms_ranged 50 None refl, (every_same ranged 32 c.empty.result (ap ranged c.empty.ensures ∙ empty_ranged), tt)))
+pub invariant_of-result : goal.invariant_of-result
+invariant_of-result c = record { whole = refl; terms = every_same terms_ranged 50 None refl; records = every_same ranged 32 c.empty.result (ap ranged c.empty.ensures ∙ empty_ranged) }

@@ -10,9 +10,9 @@ returns c =
     let t = c.args.self.now in
     let there = exists c.args.resource c.args.product 32 4 c.requires in
     record {
-      slots = record_written t.lines t.resources c.args.resource _ 5 c.args.product _ (λ e. omega arith) (omega arith) c.requires c.empty-quantity.ensures.changed;
-      was = c.empty-quantity.ensures.was ∙ ap is_some (sym (record_read t.lines t.resources 5 c.args.resource c.args.product (λ e. omega arith) c.requires));
+      slots = record_written t.lines t.resources c.args.resource _ 5 c.args.product _ (λ e. omega arith) (omega arith) c.requires c.empty_quantity.ensures.changed;
+      was = c.empty_quantity.ensures.was ∙ ap is_some (sym (record_read t.lines t.resources 5 c.args.resource c.args.product (λ e. omega arith) c.requires));
     }
 
-pub invariant-of-self : goal.invariant-of-self
-invariant-of-self c = let t = c.args.self.now in record_stays t.lines t.resources c.args.resource _ t.whole t.terms t.records c.empty-quantity.ensures.changed.kept
+pub invariant_of-self : goal.invariant_of-self
+invariant_of-self c = let t = c.args.self.now in record_stays t.lines t.resources c.args.resource _ t.whole t.terms t.records c.empty_quantity.ensures.changed.kept

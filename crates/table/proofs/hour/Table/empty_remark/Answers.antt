@@ -14,5 +14,5 @@ returns c =
       was = c.empty_remark.ensures.was ∙ ap is_some (sym (record_read t.lines t.resources 7 c.args.resource 0 (λ e. omega arith) c.requires));
     }
 
-pub invariant-of-self : goal.invariant-of-self
-invariant-of-self c = let t = c.args.self.now in record_stays t.lines t.resources c.args.resource _ t.whole t.terms t.records c.empty_remark.ensures.changed.kept
+pub invariant_of-self : goal.invariant_of-self
+invariant_of-self c = let t = c.args.self.now in record_stays t.lines t.resources c.args.resource _ t.whole t.terms t.records c.empty_remark.ensures.changed.kept

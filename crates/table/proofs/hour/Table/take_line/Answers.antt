@@ -14,8 +14,8 @@ returns-in-Ok c =
     let there = exists c.args.condition c.args.test 5 10 c.requires.slot in
     line_written c.args.self.now.lines c.args.self.now.resources c.args.condition c.args.test (Some c.in-Ok.terms) _ (omega arith) c.requires.slot (ap Some c.in-Ok.ensures.1.1)
 
-pub invariant-of-self : goal.invariant-of-self
-invariant-of-self c =
+pub invariant_of-self : goal.invariant_of-self
+invariant_of-self c =
     let t = c.args.self.now in
     let h = c.in-Ok.ensures in
     let body = c.args.body.now in

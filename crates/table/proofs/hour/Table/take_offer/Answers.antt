@@ -8,7 +8,7 @@ pub returns : goal.returns
 unfolding slots_of
 returns c =
     let there = exists c.args.resource c.args.parameter 32 8 c.requires.slot in
-    record_written c.args.self.now.lines c.args.self.now.resources c.args.resource _ 3 c.args.parameter _ (λ e. omega arith) (omega arith) c.requires.slot c.take-offer.ensures
+    record_written c.args.self.now.lines c.args.self.now.resources c.args.resource _ 3 c.args.parameter _ (λ e. omega arith) (omega arith) c.requires.slot c.take_offer.ensures
 
-pub invariant-of-self : goal.invariant-of-self
-invariant-of-self c = let t = c.args.self.now in record_stays t.lines t.resources c.args.resource _ t.whole t.terms t.records c.take-offer.ensures.kept
+pub invariant_of-self : goal.invariant_of-self
+invariant_of-self c = let t = c.args.self.now in record_stays t.lines t.resources c.args.resource _ t.whole t.terms t.records c.take_offer.ensures.kept

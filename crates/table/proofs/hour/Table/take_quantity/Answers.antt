@@ -8,7 +8,7 @@ pub returns : goal.returns
 unfolding slots_of
 returns c =
     let there = exists c.args.resource c.args.product 32 4 c.requires.slot in
-    record_written c.args.self.now.lines c.args.self.now.resources c.args.resource _ 5 c.args.product _ (λ e. omega arith) (omega arith) c.requires.slot c.take-quantity.ensures
+    record_written c.args.self.now.lines c.args.self.now.resources c.args.resource _ 5 c.args.product _ (λ e. omega arith) (omega arith) c.requires.slot c.take_quantity.ensures
 
-pub invariant-of-self : goal.invariant-of-self
-invariant-of-self c = let t = c.args.self.now in record_stays t.lines t.resources c.args.resource _ t.whole t.terms t.records c.take-quantity.ensures.kept
+pub invariant_of-self : goal.invariant_of-self
+invariant_of-self c = let t = c.args.self.now in record_stays t.lines t.resources c.args.resource _ t.whole t.terms t.records c.take_quantity.ensures.kept

@@ -8,7 +8,7 @@ pub returns : goal.returns
 unfolding slots_of
 returns c =
     let there = exists c.args.resource 0 32 1 c.requires.slot in
-    record_written c.args.self.now.lines c.args.self.now.resources c.args.resource _ 2 0 _ (λ e. omega arith) (omega arith) c.requires.slot c.take-standing.ensures
+    record_written c.args.self.now.lines c.args.self.now.resources c.args.resource _ 2 0 _ (λ e. omega arith) (omega arith) c.requires.slot c.take_standing.ensures
 
-pub invariant-of-self : goal.invariant-of-self
-invariant-of-self c = let t = c.args.self.now in record_stays t.lines t.resources c.args.resource _ t.whole t.terms t.records c.take-standing.ensures.kept
+pub invariant_of-self : goal.invariant_of-self
+invariant_of-self c = let t = c.args.self.now in record_stays t.lines t.resources c.args.resource _ t.whole t.terms t.records c.take_standing.ensures.kept
