@@ -7,6 +7,6 @@ pub returns : goal.returns
 returns g c =
     let file = file_of (g.S.Slots.holding c.args.slots.now) in
     record {
-      written = λ room. (ap Ok c.write-whole.ensures.len, placed c.args.out.now _ file c.args.place c.write-whole.ensures.bytes);
+      written = λ room. (ap Ok c.write_whole.ensures.len, placed c.args.out.now _ file c.args.place c.write_whole.ensures.bytes);
       refused = λ full. absurd (omega arith);
     }

@@ -6,16 +6,16 @@ use Rattle.writers.proofs.Lending.{behind}
 use Rattle.files.proofs.Drawn.{file_drawn, file_length}
 use Rattle.files.proofs.file.write_whole.Goals as goal
 
-pub write-mark-at-requires : goal.write-mark-at-requires
-write-mark-at-requires g c = let whole = file_length (g.S.Slots.holding c.args.slots.now) in omega arith
+pub write_mark-at-requires : goal.write_mark-at-requires
+write_mark-at-requires g c = let whole = file_length (g.S.Slots.holding c.args.slots.now) in omega arith
 
-pub write-entries-requires : goal.write-entries-requires
-write-entries-requires g c =
+pub write_entries-requires : goal.write_entries-requires
+write_entries-requires g c =
     let whole = file_length (g.S.Slots.holding c.args.slots.now) in
     simp (length-take, length-drop) (omega arith)
 
-pub overflow-add-result : goal.overflow-add-result
-overflow-add-result g c = let whole = file_length (g.S.Slots.holding c.args.slots.now) in search rules
+pub overflow_add-result : goal.overflow_add-result
+overflow_add-result g c = let whole = file_length (g.S.Slots.holding c.args.slots.now) in search rules
 
 pub returns : goal.returns
 returns g c =
@@ -24,6 +24,6 @@ returns g c =
     record {
       len = omega arith;
       bytes =
-          behind c.args.out.now _ _ mark (all_entries holding) _ c.write-mark-at.ensures.len c.write-mark-at.ensures.bytes c.write-entries.ensures.bytes
+          behind c.args.out.now _ _ mark (all_entries holding) _ c.write_mark-at.ensures.len c.write_mark-at.ensures.bytes c.write_entries.ensures.bytes
           ∙ ap (λ bs. onto bs c.args.out.now) (file_drawn holding);
     }

@@ -8,13 +8,13 @@ use Rattle.files.proofs.hour.parameter_slot.Goals as goal
 pub returns-then-parameter-lt4 : goal.returns-then-parameter-lt4
 unfolding values_hold
 returns-then-parameter-lt4 c = record {
-  bytes = c.curve-slot.ensures.bytes ∙ ap (entry_of (head c.args.kind c.args.resource c.args.parameter)) (sym (cond-true _ _ _ (lt-ltb c.args.parameter 4 (omega arith))));
-  sound = c.curve-slot.ensures.sound;
+  bytes = c.curve_slot.ensures.bytes ∙ ap (entry_of (head c.args.kind c.args.resource c.args.parameter)) (sym (cond-true _ _ _ (lt-ltb c.args.parameter 4 (omega arith))));
+  sound = c.curve_slot.ensures.sound;
 }
 
 pub returns-else-parameter-lt4 : goal.returns-else-parameter-lt4
 unfolding values_hold
 returns-else-parameter-lt4 c = record {
-  bytes = c.number-slot.ensures.bytes ∙ ap (entry_of (head c.args.kind c.args.resource c.args.parameter)) (sym (cond-false _ _ _ (le-ltb c.args.parameter 4 (omega arith))));
-  sound = c.number-slot.ensures.sound;
+  bytes = c.number_slot.ensures.bytes ∙ ap (entry_of (head c.args.kind c.args.resource c.args.parameter)) (sym (cond-false _ _ _ (le-ltb c.args.parameter 4 (omega arith))));
+  sound = c.number_slot.ensures.sound;
 }

@@ -11,8 +11,8 @@ returns-in-2 c =
     let two = c.in-2.is in
     let none = only_standing c.args.kind c.args.resource c.args.sub two c.requires.slot in
     record {
-      bytes = c.standing-slot.ensures.bytes ∙ (λ i. entry_of (head (sym two i) c.args.resource (sym none i)) (holds c.args.one.now (sym two i) (sym none i)));
-      sound = c.standing-slot.ensures.sound;
+      bytes = c.standing_slot.ensures.bytes ∙ (λ i. entry_of (head (sym two i) c.args.resource (sym none i)) (holds c.args.one.now (sym two i) (sym none i)));
+      sound = c.standing_slot.ensures.sound;
     }
 
 pub returns-in-3 : goal.returns-in-3
@@ -31,12 +31,12 @@ pub returns-in-6 : goal.returns-in-6
 unfolding holds
 returns-in-6 c = search rules
 
-pub returns-in-default : goal.returns-in-default
+pub returns-in_default : goal.returns-in_default
 unfolding holds
-returns-in-default c =
+returns-in_default c =
     let seven : c.args.kind ≡ 7 = search rules in
     let none = only_remark c.args.kind c.args.resource c.args.sub seven c.requires.slot in
     record {
-      bytes = c.remark-slot.ensures.bytes ∙ (λ i. entry_of (head (sym seven i) c.args.resource (sym none i)) (holds c.args.one.now (sym seven i) (sym none i)));
-      sound = c.remark-slot.ensures.sound;
+      bytes = c.remark_slot.ensures.bytes ∙ (λ i. entry_of (head (sym seven i) c.args.resource (sym none i)) (holds c.args.one.now (sym seven i) (sym none i)));
+      sound = c.remark_slot.ensures.sound;
     }

@@ -8,19 +8,19 @@ but_last t c =
     elim c.if-n-lt10.branch [
       | then-n-lt10 w ↦ first _ _ _ _ w.if-n-lt10.true w.at-is w.out-is
       | else-n-lt10 w ↦
-          let called = w.write-decimal-at.ensures in
+          let called = w.write_decimal-at.ensures in
           later _ _ _ _ w.if-n-lt10.false (omega arith) (w.at-is ∙ called.len) (w.out-is ∙ called.bytes)
     ]
 
-pub write-decimal-at-requires : goal.write-decimal-at-requires
-write-decimal-at-requires t c = let s = length_digits c.args.n (omega arith) (omega arith) in (omega arith, omega arith)
+pub write_decimal-at-requires : goal.write_decimal-at-requires
+write_decimal-at-requires t c = let s = length_digits c.args.n (omega arith) (omega arith) in (omega arith, omega arith)
 
 pub bounds-out-at : goal.bounds-out-at
 bounds-out-at t c = let e = ends (but_last t c) in omega arith
 
-pub overflow-add-result : goal.overflow-add-result
-overflow-add-result t c =
-    let e = ends (but_last t (goal.at.overflow-add-result t c).Joined-n-lt10) in
+pub overflow_add-result : goal.overflow_add-result
+overflow_add-result t c =
+    let e = ends (but_last t (goal.at.overflow_add-result t c).Joined-n-lt10) in
     omega (arith, length_most c.args.n (omega arith))
 
 pub returns : goal.returns

@@ -3,8 +3,8 @@ use Rattle.std.proofs.lemmas.List.{at_drop_more, at_drop_all}
 use Rattle.answers.specs.Lines.{sum}
 use Rattle.listing.proofs.line.total.Goals as goal
 
-pub overflow-add-all : goal.overflow-add-all
-overflow-add-all c = let more = at_drop_more sum c.args.charges.now c.loop-charge.charge-index 0 (omega arith) in omega arith
+pub overflow_add-all : goal.overflow_add-all
+overflow_add-all c = let more = at_drop_more sum c.args.charges.now c.loop-charge.charge-index 0 (omega arith) in omega arith
 
 pub loop-charge-preserved : goal.loop-charge-preserved
 loop-charge-preserved c = let more = at_drop_more sum c.args.charges.now c.loop-charge.charge-index 0 (omega arith) in omega arith

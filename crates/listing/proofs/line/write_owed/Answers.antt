@@ -6,7 +6,7 @@ use Rattle.listing.proofs.line.write_owed.Goals as goal
 pub returns : goal.returns
 returns c =
     let old = c.args.out.now in
-    let digits = c.write-decimal-at.ensures in
+    let digits = c.write_decimal-at.ensures in
     let sums = ap (λ n. length (decimal n)) c.total.ensures in
     let none : Front [] old old 0 = record { here = refl; bytes = refl } in
     let two = more (push none 32 (omega arith)) _ _ _ digits.len digits.bytes in

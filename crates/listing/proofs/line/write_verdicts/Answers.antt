@@ -7,11 +7,11 @@ use Rattle.listing.proofs.line.write_verdicts.Goals as goal
 pub returns : goal.returns
 returns c =
     let a = c.args.answer.now in
-    let start = c.write-bytes-at.ensures in
-    let number : Front (two_digits c.args.resource) c.args.out.now c.write-bytes-at.new.out c.write-bytes-at.result = record { here = start.len; bytes = start.bytes } in
-    let one = group number a.conduct _ _ c.write-letters-at.ensures.len c.write-letters-at.ensures.bytes in
-    let two = group one a.impact _ _ c.write-letters-at-2.ensures.len c.write-letters-at-2.ensures.bytes in
-    let three = group two a.resource _ _ c.write-letters-at-3.ensures.len c.write-letters-at-3.ensures.bytes in
-    let four = group three a.entity _ _ c.write-letters-at-4.ensures.len c.write-letters-at-4.ensures.bytes in
-    let five = group four a.quantity_impact _ _ c.write-letters.ensures.len c.write-letters.ensures.bytes in
+    let start = c.write_bytes-at.ensures in
+    let number : Front (two_digits c.args.resource) c.args.out.now c.write_bytes-at.new.out c.write_bytes-at.result = record { here = start.len; bytes = start.bytes } in
+    let one = group number a.conduct _ _ c.write_letters-at.ensures.len c.write_letters-at.ensures.bytes in
+    let two = group one a.impact _ _ c.write_letters-at-2.ensures.len c.write_letters-at-2.ensures.bytes in
+    let three = group two a.resource _ _ c.write_letters-at-3.ensures.len c.write_letters-at-3.ensures.bytes in
+    let four = group three a.entity _ _ c.write_letters-at-4.ensures.len c.write_letters-at-4.ensures.bytes in
+    let five = group four a.quantity_impact _ _ c.write_letters.ensures.len c.write_letters.ensures.bytes in
     record { len = omega arith; bytes = five.bytes }

@@ -21,8 +21,8 @@ returns-in-3 g c =
       sound = c.offer_slot.ensures.sound;
     }
 
-pub returns-in-default : goal.returns-in-default
-returns-in-default g c =
+pub returns-in_default : goal.returns-in_default
+returns-in_default g c =
     let m = meant_by g.C.Bound.meaning g.A.Bound.meaning g.I.Bound.meaning g.Q.Bound.meaning c.args.self.now.places.now in
     let h = head c.args.kind c.args.first c.args.sub in
     record {
