@@ -23,6 +23,6 @@ returns g c =
     let before = c.part.ensures ∙ is in
     record {
       entry_file_of_calls = is;
-      is_taken = c.is-ok-taken.ensures.value ∙ taken (slots_after calls) (reached calls) _ _ before c.open-other.ensures.ledger _ c.load.ensures.answer;
+      is_taken = c.is_ok-taken.ensures.value ∙ taken (slots_after calls) (reached calls) _ _ before c.open-other.ensures.ledger _ c.load.ensures.answer;
       same_bytes = c.file-after.ensures ∙ ap (entry_file kinds) (reloaded (slots_after calls) (reached calls) _ _ before c.open-other.ensures.ledger _ c.load.ensures.ledger) ∙ sym is;
     }

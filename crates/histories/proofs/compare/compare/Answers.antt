@@ -18,8 +18,8 @@ of-right-requires g c = well _ _ (acts_of c.args.second.now) c.replay-two.ensure
 pub file-requires : goal.file-requires
 file-requires g c =
     let meant = meant_by g.C.Bound.meaning g.A.Bound.meaning g.I.Bound.meaning g.Q.Bound.meaning in
-    let m = meant c.args.first-places in
-    let keeps = lawful g.C.Bound.meaning g.A.Bound.meaning g.I.Bound.meaning g.Q.Bound.meaning g.C.Bound.harmless g.A.Bound.harmless g.Q.Bound.harmless g.met.C.Bound.spares g.met.A.Bound.spares g.met.Q.Bound.spares c.args.first-places in
+    let m = meant c.args.first_places in
+    let keeps = lawful g.C.Bound.meaning g.A.Bound.meaning g.I.Bound.meaning g.Q.Bound.meaning g.C.Bound.harmless g.A.Bound.harmless g.Q.Bound.harmless g.met.C.Bound.spares g.met.A.Bound.spares g.met.Q.Bound.spares c.args.first_places in
     let first = acts_of c.args.first.now in
     let left = files_are _ _ first c.replay-one.ensures.ledger m _ (ap meant c.replay-one.ensures.bounds) c.of-left.result c.of-left.ensures in
     let fits = mitigated_fits m keeps first in
@@ -29,10 +29,10 @@ pub returns : goal.returns
 returns g c =
     let meant = meant_by g.C.Bound.meaning g.A.Bound.meaning g.I.Bound.meaning g.Q.Bound.meaning in
     let meant-second = meant_by g.D.Bound.meaning g.B.Bound.meaning g.J.Bound.meaning g.R.Bound.meaning in
-    let m = meant c.args.first-places in
-    let n = meant-second c.args.second-places in
-    let keeps = lawful g.C.Bound.meaning g.A.Bound.meaning g.I.Bound.meaning g.Q.Bound.meaning g.C.Bound.harmless g.A.Bound.harmless g.Q.Bound.harmless g.met.C.Bound.spares g.met.A.Bound.spares g.met.Q.Bound.spares c.args.first-places in
-    let keeps-second = lawful g.D.Bound.meaning g.B.Bound.meaning g.J.Bound.meaning g.R.Bound.meaning g.D.Bound.harmless g.B.Bound.harmless g.R.Bound.harmless g.met.D.Bound.spares g.met.B.Bound.spares g.met.R.Bound.spares c.args.second-places in
+    let m = meant c.args.first_places in
+    let n = meant-second c.args.second_places in
+    let keeps = lawful g.C.Bound.meaning g.A.Bound.meaning g.I.Bound.meaning g.Q.Bound.meaning g.C.Bound.harmless g.A.Bound.harmless g.Q.Bound.harmless g.met.C.Bound.spares g.met.A.Bound.spares g.met.Q.Bound.spares c.args.first_places in
+    let keeps-second = lawful g.D.Bound.meaning g.B.Bound.meaning g.J.Bound.meaning g.R.Bound.meaning g.D.Bound.harmless g.B.Bound.harmless g.R.Bound.harmless g.met.D.Bound.spares g.met.B.Bound.spares g.met.R.Bound.spares c.args.second_places in
     let first = acts_of c.args.first.now in
     let second = acts_of c.args.second.now in
     let left = files_are _ _ first c.replay-one.ensures.ledger m _ (ap meant c.replay-one.ensures.bounds) c.of-left.result c.of-left.ensures in
@@ -41,6 +41,6 @@ returns g c =
     let s = mitigated m (slots_after first) in
     let are = c.part.ensures ∙ left.mitigated in
     let held = reloaded s fits _ _ are c.open-new.ensures.ledger _ c.load.ensures.ledger in
-    compared m n keeps keeps-second first second _ left right c.same-bytes.ensures
-    (c.is-ok-taken.ensures.value ∙ taken s fits _ _ are c.open-new.ensures.ledger _ c.load.ensures.answer)
+    compared m n keeps keeps-second first second _ left right c.same_bytes.ensures
+    (c.is_ok-taken.ensures.value ∙ taken s fits _ _ are c.open-new.ensures.ledger _ c.load.ensures.answer)
     (c.file.ensures ∙ stays m keeps first _ (ap meant (c.load.ensures.bounds ∙ c.open-new.ensures.bounds ∙ c.replay-one.ensures.bounds)) _ held)

@@ -4,4 +4,4 @@ use Rattle.book.proofs.book.Book.write_entries.Goals as goal
 
 pub returns : goal.returns
 unfolding file_of slots_of
-returns g c = c.write-file.ensures
+returns g c = c.write_file.ensures

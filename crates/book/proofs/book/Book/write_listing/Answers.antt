@@ -3,14 +3,14 @@ use Rattle.charges.specs.Findings.{meant_by}
 use Rattle.book.proofs.Drawing.{redrawn, lines_drawn}
 use Rattle.book.proofs.book.Book.write_listing.Goals as goal
 
-pub write-listing-requires : goal.write-listing-requires
-write-listing-requires g c = c.listed-answers.ensures.small
+pub write_listing-requires : goal.write_listing-requires
+write_listing-requires g c = c.listed-answers.ensures.small
 
 pub returns : goal.returns
 returns g c =
     let m = meant_by g.C.Bound.meaning g.A.Bound.meaning g.I.Bound.meaning g.Q.Bound.meaning c.args.self.now.places in
     let drawn = lines_drawn m c.args.self.now.table _ c.listed-answers.ensures.value in
     record {
-      written = redrawn drawn c.write-listing.ensures.written;
-      short = subst (λ file. length file ≤ 1696) drawn c.write-listing.ensures.short;
+      written = redrawn drawn c.write_listing.ensures.written;
+      short = subst (λ file. length file ≤ 1696) drawn c.write_listing.ensures.short;
     }
