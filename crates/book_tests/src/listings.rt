@@ -131,8 +131,8 @@ mod tests {
         held_back(&rt, &mut book);
         let mut out = [b'.'; 45];
         assert!(rt; book.write_listing(&mut out, 2) == Ok(40));
-        assert!(rt; &out[0..42] == b"..03 NNNNNNNN NNNN FNNN NNNN FNNN 8100000\n");
-        assert!(rt; &out[42..45] == b"...");
+        assert!(rt; &out[0..42] == b"..03 NNNNNNNN NNNN FNNN NNNN FNNN 8100000\n".as_slice());
+        assert!(rt; &out[42..45] == b"...".as_slice());
         let mut short = [b'.'; 39];
         let room = Err(Refusal {
             fault: Fault::Room,

@@ -6,8 +6,8 @@ use Rattle.scenarios.proofs.compare.compare.Goals as goal
 pub returns-in-Err : goal.returns-in-Err
 returns-in-Err g c = answered c.args.expected.now _ c.open-book.ensures.ledger (Err c.in-Err.refusal) c.in-Err.ensures.answer
 
-pub first-difference-requires : goal.first-difference-requires
-first-difference-requires g c = fits c.args.expected.now _ c.open-book.ensures.ledger _ _ c.load.ensures.ledger
+pub first_difference-requires : goal.first_difference-requires
+first_difference-requires g c = fits c.args.expected.now _ c.open-book.ensures.ledger _ _ c.load.ensures.ledger
 
 pub returns-in-Some : goal.returns-in-Some
 returns-in-Some g c =
@@ -17,6 +17,6 @@ returns-in-Some g c =
 pub returns : goal.returns
 returns g c =
     let meant = meant_by g.C.Bound.meaning g.A.Bound.meaning g.I.Bound.meaning g.Q.Bound.meaning in (
-      sym (answered c.args.expected.now _ c.open-book.ensures.ledger (Ok c.in-default.field-0) c.in-default.ensures.answer),
+      sym (answered c.args.expected.now _ c.open-book.ensures.ledger (Ok c.in_default.field-0) c.in_default.ensures.answer),
       differs_alike c.args.expected.now _ c.open-book.ensures.ledger _ _ c.load.ensures.ledger _ _ (ap meant (c.load.ensures.bounds ∙ c.open-book.ensures.bounds)) None c.in-None.ensures,
     )

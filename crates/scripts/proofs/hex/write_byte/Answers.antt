@@ -4,6 +4,6 @@ use Rattle.scripts.proofs.hex.write_byte.Goals as goal
 pub returns : goal.returns
 returns c =
     two_digits _ _ _ _ _ _ _ _ _
-    c.in-ok-push.ensures.bytes c.in-ok-push-2.ensures.bytes
-    (c.push.ensures.ascii c.hex_digit.ensures.ascii) (c.push-2.ensures.ascii c.hex-digit-2.ensures.ascii)
-    c.hex_digit.ensures.value c.hex-digit-2.ensures.value
+    c.in_ok-push.ensures.bytes c.in_ok-push-2.ensures.bytes
+    (c.push.ensures.ascii c.hex_digit.ensures.ascii) (c.push-2.ensures.ascii c.hex_digit-2.ensures.ascii)
+    c.hex_digit.ensures.value c.hex_digit-2.ensures.value

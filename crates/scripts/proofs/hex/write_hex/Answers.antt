@@ -3,9 +3,9 @@ use Rattle.std.proofs.lemmas.Result.{err_from_is_err_and}
 use Rattle.scripts.proofs.Pairs.{written_is_hex, written_again, byte_written, all_written}
 use Rattle.scripts.proofs.hex.write_hex.Goals as goal
 
-pub returns-in-err-write-byte : goal.returns-in-err-write-byte
-returns-in-err-write-byte c =
-    let p = err_from_is_err_and c.from-residual.result c.from-residual.ensures.1 in
+pub returns-in_err-write_byte : goal.returns-in_err-write_byte
+returns-in_err-write_byte c =
+    let p = err_from_is_err_and c.from_residual.result c.from_residual.ensures.1 in
     let bytes = c.args.bytes.now in
     rw p.1 (record {
       text = tt;
@@ -13,7 +13,7 @@ returns-in-err-write-byte c =
     })
 
 pub loop-byte-preserved : goal.loop-byte-preserved
-loop-byte-preserved c = byte_written c.args.bytes.now _ _ c.loop-byte.byte-index c.loop-byte-test.true c.in-ok-write-byte.ensures ∙ c.loop-byte.invariant
+loop-byte-preserved c = byte_written c.args.bytes.now _ _ c.loop-byte.byte-index c.loop-byte-test.true c.in_ok-write_byte.ensures ∙ c.loop-byte.invariant
 
 pub returns : goal.returns
 returns c =

@@ -5,9 +5,9 @@ use Rattle.scripts.specs.Texts.{lines_of}
 use Rattle.scripts.proofs.Cutting.{lines_by, behind_short}
 use Rattle.scripts.proofs.texts.split_line.Goals as goal
 
-pub returns-then-is-empty : goal.returns-then-is-empty
-returns-then-is-empty c =
-    let long = eqb-true (length c.args.text.now) 0 (sym c.if-is-empty.ensures) in
+pub returns-then-is_empty : goal.returns-then-is_empty
+returns-then-is_empty c =
+    let long = eqb-true (length c.args.text.now) 0 (sym c.if-is_empty.ensures) in
     let none = nil_from_length c.args.text.now long in
     record { parts = none; lines = ap lines_of none; shorter = long }
 
@@ -15,7 +15,7 @@ pub returns-in-Some : goal.returns-in-Some
 returns-in-Some c =
     let text = c.args.text.now in
     let parts = c.in-Some.ensures.parts in
-    let ne = eqb-false (length c.args.text.now) 0 (sym c.if-is-empty.ensures) in
+    let ne = eqb-false (length c.args.text.now) 0 (sym c.if-is_empty.ensures) in
     let some : 0 < length c.args.text.now = omega arith in
     let long = ap length parts.1 in
     let less = behind_short 10 text some in
@@ -24,7 +24,7 @@ returns-in-Some c =
 pub returns-in-None : goal.returns-in-None
 returns-in-None c =
     let text = c.args.text.now in
-    let ne = eqb-false (length c.args.text.now) 0 (sym c.if-is-empty.ensures) in
+    let ne = eqb-false (length c.args.text.now) 0 (sym c.if-is_empty.ensures) in
     let some : 0 < length c.args.text.now = omega arith in
     let front = sym c.in-None.ensures.test in
     let back = take_rest text (length text) ∙ drop_all (length text) text (omega arith) ∙ sym c.in-None.ensures.parts in

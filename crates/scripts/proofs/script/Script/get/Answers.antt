@@ -9,16 +9,16 @@ returns-then-index-len c = omega arith
 pub index-requires : goal.index-requires
 index-requires c = let n = count c.args.self.now in omega arith
 
-pub in-store-requires : goal.in-store-requires
-in-store-requires c =
+pub in_store-requires : goal.in_store-requires
+in_store-requires c =
     let call = c.index.result.now in
     let n = count c.args.self.now in
     let less : c.args.index < vec_len c.args.self.now.calls = omega arith in
-    ap (λ l. within (length l) call) c.as-slice.ensures.value ∙ one_within c.args.self.now c.args.index call less c.index.ensures
+    ap (λ l. within (length l) call) c.as_slice.ensures.value ∙ one_within c.args.self.now c.args.index call less c.index.ensures
 
 pub returns : goal.returns
 returns c =
     let call = c.index.result.now in
     let n = count c.args.self.now in
     let less : c.args.index < vec_len c.args.self.now.calls = omega arith in
-    (omega arith, c.in-store.ensures ∙ ap (λ l. taken_from l call) c.as-slice.ensures.value ∙ one_said c.args.self.now c.args.index call less c.index.ensures)
+    (omega arith, c.in_store.ensures ∙ ap (λ l. taken_from l call) c.as_slice.ensures.value ∙ one_said c.args.self.now c.args.index call less c.index.ensures)
