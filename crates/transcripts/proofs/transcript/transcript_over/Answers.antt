@@ -10,8 +10,8 @@ pub loop-line-preserved : goal.loop-line-preserved
 loop-line-preserved g c =
     let meant = meant_by g.C.Bound.meaning g.A.Bound.meaning g.I.Bound.meaning g.Q.Bound.meaning in
     let same = c.loop-line.invariant.0 in
-    let done = c.in-ok-answer.ensures in (
-      c.obey-line.ensures.bounds ∙ same,
+    let done = c.in_ok-answer.ensures in (
+      c.obey_line.ensures.bounds ∙ same,
       goes_on c.loop-line.invariant.1 (meant c.loop-line.book.places) (ap meant same) c.in-Some.line.now c.in-Some.more.now _ _ _ _ c.in-Some.ensures.lines c.in-Some.ensures.shorter
-          done.text done.ledger c.as-str.ensures.value c.in-ok-push-str.ensures.bytes,
+          done.text done.ledger c.as_str.ensures.value c.in_ok-push_str.ensures.bytes,
     )
