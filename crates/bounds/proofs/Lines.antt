@@ -1,8 +1,7 @@
 -- The line of three numbers, by whether they are in range.
-use Rattle.std.proofs.Common.{◌≡◌, ℕ, Bool, true, false, ℤ, Some, None, Option, sym, refl, ap, ◌∙◌}
+use Rattle.std.proofs.Common.{◌≡◌, ℕ, Bool, true, false, ℤ, Some, None, refl, ap}
 use mathlib.Core.Bool.{Bool-set}
 use Rattle.std.proofs.lemmas.Bool.{both_ways}
-use Rattle.bounds.specs.declared.line.Line.{Line}
 use Rattle.bounds.specs.Ranges.{in_range}
 use Rattle.bounds.specs.Lines.{line_if, line_of}
 

@@ -1,5 +1,5 @@
 -- What a product owes, in twentieths of a cent.
-use Rattle.std.specs.Prelude.{ℕ, ◌-◌, ◌*◌, Bool, true, false, cond, ◌&&◌, ◌||◌, List, ℤ, pos, negsuc, Some, None, Option}
+use Rattle.std.specs.Prelude.{ℕ, ◌-◌, ◌*◌, List, ℤ, pos, negsuc, Some, None, Option}
 use Rattle.bounds.specs.declared.line.Line.{Line}
 use Rattle.bounds.specs.Meanings.{Meaning}
 use Rattle.curves.specs.declared.step.Step.{Step}

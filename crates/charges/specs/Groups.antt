@@ -1,5 +1,5 @@
 -- Groups: resources of one entity under one condition, each of which passed by itself.
-use Rattle.std.specs.Prelude.{◌≡◌, ℕ, zero, suc, ◌+◌, ◌<◌, ◌≤◌, Bool, true, false, cond, ◌&&◌, List, get_or, pos, Some, None, Option, ◌==◌, slice_index_or}
+use Rattle.std.specs.Prelude.{◌≡◌, ℕ, zero, suc, ◌+◌, ◌<◌, ◌≤◌, Bool, false, cond, ◌&&◌, List, get_or, pos, Some, None, Option, ◌==◌, slice_index_or}
 use Rattle.bounds.specs.Meanings.{Meaning}
 use Rattle.kinds.specs.Judged.{judged}
 use Rattle.vocabulary.specs.declared.product.Product.{Product}

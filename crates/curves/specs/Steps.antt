@@ -1,5 +1,5 @@
 -- Lists of steps: their order, the price at a quantity, and what stands in for an offer.
-use Rattle.std.specs.Prelude.{ℕ, Bool, true, false, cond, ◌&&◌, List, [], ◌∷◌, ◌++◌, ℤ, pos, int_le, nat_le, nat_lt}
+use Rattle.std.specs.Prelude.{ℕ, Bool, true, cond, ◌&&◌, List, [], ◌∷◌, ◌++◌, ℤ, pos, int_le, nat_le, nat_lt}
 use Rattle.curves.specs.declared.step.Step.{Step}
 
 abbrev pub step : ℤ → ℕ → Step

@@ -1,8 +1,7 @@
 -- What rows, remarks and records hold, as the entries of their slots.
-use Rattle.std.proofs.Common.{◌≡◌, ℕ, ◌+◌, ◌*◌, ◌≤◌, List, [], ◌∷◌, length, take, Some, Option, sym, refl, ap, ◌∙◌, subst, arith, length-append}
+use Rattle.std.proofs.Common.{◌≡◌, ℕ, ◌+◌, ◌*◌, ◌≤◌, List, length, take, Some, Option, sym, ap, ◌∙◌, subst, arith}
 use Rattle.std.proofs.lemmas.List.{length-take-le, take_all, length-take}
 use Rattle.std.proofs.lemmas.Bool.{cond-true, and_from, le-leb, eq-eqb}
-use Rattle.curves.specs.declared.step.Step.{Step}
 use Rattle.curves.specs.declared.row.Row.{Row}
 use Rattle.curves.specs.Rows.{row_steps}
 use Rattle.vocabulary.specs.declared.resource.Remark.{Remark}

@@ -1,5 +1,5 @@
 -- The file of what the slots hold is the mark and the entries of all places.
-use Rattle.std.proofs.Common.{◌≡◌, ℕ, ◌+◌, ◌<◌, List, ◌++◌, length, Some, None, Option, sym, refl, ap, ◌∙◌, zero-add, length-append}
+use Rattle.std.proofs.Common.{◌≡◌, ℕ, ◌+◌, ◌<◌, List, ◌++◌, length, sym, ap, ◌∙◌, zero-add, length-append}
 use mathlib.Core.Path.{fun_ext}
 use Rattle.entries.specs.Files.{mark, head_fault}
 use Rattle.entries.specs.Sections.{Head}

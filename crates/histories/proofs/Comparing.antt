@@ -19,7 +19,6 @@ use Rattle.table.specs.declared.hour.Table.{Table}
 use Rattle.table.specs.Tables.{slots_of}
 use Rattle.book.specs.Ledgers.{ledger_of}
 use Rattle.histories.specs.declared.drawn.Files.{Files}
-use Rattle.histories.specs.declared.file.File.{File}
 use Rattle.histories.specs.declared.compare.Comparison.{Comparison}
 use Rattle.histories.specs.Documents.{bytes_of, DrawnFrom}
 use Rattle.histories.specs.Histories.{slots_after, OffersMitigated, Compared}

@@ -1,5 +1,5 @@
 -- A substitute passes the test of its reference.
-use Rattle.std.specs.Prelude.{◌≡◌, ℕ, ◌<◌, ◌≤◌, Bool, true, false, cond, ◌&&◌, List, [], ◌∷◌, ℤ, pos, int_le, nat_lt, refl}
+use Rattle.std.specs.Prelude.{◌≡◌, ℕ, ◌<◌, ◌≤◌, Bool, true, List, [], ◌∷◌, ℤ, pos, int_le, nat_lt, refl}
 use Rattle.std.proofs.Common.{sym, ap, subst, ◌∙◌, ⊎_elim, arith}
 use Rattle.std.specs.Int.Signed.{≤ℤ_refl}
 use Rattle.std.proofs.lemmas.Bool.{le-leb, lt-leb, ltb-true, and_parts, and_from, cases_lt, cond-true, cond-false}
@@ -8,8 +8,8 @@ use Rattle.bounds.specs.declared.side.Side.TheVariants.{Below, Above}
 use Rattle.bounds.specs.Meanings.{Harmless}
 use Rattle.curves.specs.declared.step.Step.{Step}
 use Rattle.curves.specs.Steps.{step, rises, rises_on, in_order, price_after, price_at, last_end, substitute}
-use Rattle.curves.proofs.Substitutes.{stand_in, stand_in_more, stand_in_stop, stand_in_last, substitute_end}
-use Rattle.kinds.specs.Conduct.{step_passes, all_pass}
+use Rattle.curves.proofs.Substitutes.{stand_in, stand_in_more, stand_in_stop, substitute_end}
+use Rattle.kinds.specs.Conduct.{all_pass}
 
 -- the reference itself does no harm
 pub harmless_self : (side : Side) (r : ℤ) → Harmless side r r

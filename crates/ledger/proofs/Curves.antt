@@ -1,9 +1,7 @@
 -- Curves as bytes: read back, and substituted.
-use Rattle.std.proofs.Common.{◌≡◌, ℕ, ◌+◌, ◌-◌, ◌*◌, ◌/◌, ◌%◌, ◌≤◌, Bool, true, ◌&&◌, ltb, leb, List, [], ◌∷◌, ◌++◌, length, drop, ℤ, pos, negsuc, refl, ap, ◌∙◌, arith, w32, SFits, of_z}
-use lib.Signed.{le_z}
-use Rattle.std.proofs.lemmas.List.{append_assoc, length-append}
-use Rattle.std.proofs.lemmas.Int.{ints}
-use Rattle.std.proofs.lemmas.Bool.{leb-true, and_parts, and_from, cond-true, cond_both, eq-eqb}
+use Rattle.std.proofs.Common.{◌≡◌, ℕ, ◌-◌, ◌%◌, ◌≤◌, Bool, true, ◌&&◌, ltb, leb, List, [], ◌∷◌, ◌++◌, length, ℤ, pos, refl, ap, ◌∙◌, arith}
+use Rattle.std.proofs.lemmas.List.{length-append}
+use Rattle.std.proofs.lemmas.Bool.{and_parts, and_from, cond-true, cond_both, eq-eqb}
 use Rattle.bounds.specs.Meanings.{Meaning}
 use Rattle.bounds.specs.Ranges.{in_price_range}
 use Rattle.curves.specs.declared.step.Step.{Step}
@@ -11,8 +9,7 @@ use Rattle.curves.specs.Steps.{step, price_after, price_at, end_after, last_end,
 use Rattle.curves.proofs.Substitutes.{substitute_in_order}
 use Rattle.kinds.specs.Conduct.{all_pass}
 use Rattle.kinds.specs.Passing.{substitute_passes}
-use Rattle.bodies.specs.Numbers.{word, word_bytes, number_bytes}
-use Rattle.bodies.specs.Curves.{step_of, first_steps, curve_steps, step_bytes, curve_bytes, in_step_range, all_in_range, steps_fault}
+use Rattle.bodies.specs.Curves.{curve_steps, curve_bytes, in_step_range, all_in_range, steps_fault}
 use Rattle.bodies.specs.Bodies.{most_steps, curve_fault}
 use Rattle.bodies.proofs.Backs.{length_curve, curve_back}
 use Rattle.ledger.specs.Promises.{PassesReference}

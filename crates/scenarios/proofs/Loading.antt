@@ -1,5 +1,5 @@
 -- A scenario's entries, loaded into an empty book.
-use Rattle.std.proofs.Common.{◌≡◌, Bool, [], ◌∷◌, Option, Result, sym, ap, ◌∙◌, subst}
+use Rattle.std.proofs.Common.{◌≡◌, Bool, [], ◌∷◌, Option, Result, subst}
 use Rattle.bodies.specs.declared.fault.Refusal.{Refusal}
 use Rattle.charges.specs.Findings.{Meanings}
 use Rattle.entries.specs.Files.{told}

@@ -1,6 +1,5 @@
 -- When a scenario agrees, and what is told where it does not.
 use Rattle.std.specs.Prelude.{◌≡◌, ℕ, List, [], ◌∷◌, Some, None, Ok, Err, Option, Result}
-use Rattle.bodies.specs.declared.fault.Refusal.{Refusal}
 use Rattle.charges.specs.Findings.{Meanings}
 use Rattle.entries.specs.Files.{told, no_fault}
 use Rattle.entries.specs.Table.{kinds}

@@ -7,7 +7,6 @@ use Rattle.scripts.specs.Commands.{Order, post, load, clear, close, ask, entries
 use Rattle.scripts.specs.Ranges.{taken_from, within}
 use Rattle.scripts.specs.declared.scripted.Scripted.{Scripted}
 use Rattle.histories.specs.declared.call.Call.{Call}
-use Rattle.histories.specs.declared.call.Call.TheVariants as Call
 use Rattle.scripts.specs.declared.script.Script.{Script}
 use Rattle.scripts.specs.declared.fault.Fault.{Fault}
 use Rattle.scripts.specs.declared.fault.Fault.TheVariants.{NoCall, Memory}

@@ -1,5 +1,5 @@
 -- The table of which nothing is known has empty slots.
-use Rattle.std.proofs.Common.{◌≡◌, ℕ, ◌+◌, ◌-◌, ◌*◌, ◌<◌, ◌≤◌, Bool, true, false, cond, eqb, ltb, List, [], length, get_or, replicate, Some, None, Option, sym, refl, ap, ◌∙◌, subst, ⊎_elim, arith}
+use Rattle.std.proofs.Common.{◌≡◌, ℕ, ◌+◌, ◌-◌, ◌*◌, Bool, true, false, cond, eqb, ltb, List, get_or, replicate, None, Option, sym, refl, subst, ⊎_elim, arith}
 use Rattle.std.proofs.lemmas.List.{get_or-replicate, get_or_past, length-replicate}
 use Rattle.std.proofs.lemmas.Bool.{cases_lt}
 use Rattle.std.specs.Option.{option_map}
@@ -16,7 +16,7 @@ use Rattle.entries.specs.Table.{kinds}
 use Rattle.ledger.specs.Ledger.{nothing}
 use Rattle.ledger.specs.Views.{slots_from}
 use Rattle.ledger.proofs.Viewing.{views}
-use Rattle.table.specs.Holding.{by_kind, at_sub_zero, values_hold, holds}
+use Rattle.table.specs.Holding.{by_kind, values_hold, holds}
 use Rattle.table.specs.Tables.{table_holds}
 
 -- an element of a list of one value, or the default past its end

@@ -1,10 +1,10 @@
 -- When a slot is full.
-use Rattle.std.proofs.Common.{◌≡◌, ℕ, ◌<◌, ◌≤◌, min, Bool, true, false, cond, ◌&&◌, eqb, leb, List, length, take, is_some, Some, None, Option, sym, refl, ap, ◌∙◌, ⊎_elim, arith}
+use Rattle.std.proofs.Common.{◌≡◌, leb, length, is_some, Some, None, Option, refl, ◌∙◌, ⊎_elim, arith}
 use Rattle.std.proofs.lemmas.List.{length-take}
 use Rattle.std.proofs.lemmas.Bool.{cases_lt, le-leb, lt-leb}
 use Rattle.std.specs.Option.{option_map}
 use Rattle.vocabulary.specs.declared.resource.Remark.{Remark}
-use Rattle.bodies.specs.Bodies.{remark_bytes, remark_fault}
+use Rattle.bodies.specs.Bodies.{remark_bytes}
 use Rattle.table.specs.Holding.{remark_held}
 
 pub some_mapped : {A B : Type 0} (f : A → B) (o : Option A) → is_some o ≡ is_some (option_map f o)

@@ -1,9 +1,8 @@
 -- Numbers in their ranges, which stay so where another is written.
-use Rattle.std.proofs.Common.{◌≡◌, ℕ, zero, suc, Bool, true, ◌&&◌, List, [], ◌∷◌, length, get_or, set, replicate, ℤ, pos, Some, None, Option, sym, refl, ap, ◌∙◌, arith, length-set}
+use Rattle.std.proofs.Common.{◌≡◌, ℕ, zero, suc, Bool, true, List, [], ◌∷◌, length, get_or, set, replicate, ℤ, pos, Some, None, Option, refl, ◌∙◌, arith, length-set}
 use lib.Signed.{le_z}
 use Rattle.std.proofs.lemmas.Int.{ints}
 use Rattle.std.proofs.lemmas.Bool.{and_parts, and_from}
-use Rattle.curves.specs.declared.row.Row.{Row}
 use Rattle.curves.specs.Rows.{empty_row}
 use Rattle.vocabulary.specs.declared.lines.Terms.{Terms}
 use Rattle.vocabulary.specs.declared.resource.Resource.{Resource}

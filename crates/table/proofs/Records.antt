@@ -1,6 +1,6 @@
 -- A record of which one field is written: its slots.
-use Rattle.std.proofs.Common.{◌≡◌, ℕ, ◌+◌, ◌-◌, ◌<◌, ◌≤◌, Bool, true, false, cond, eqb, ltb, List, length, get_or, set, ℤ, Some, None, Option, sym, refl, ap, ◌∙◌, ⊎_elim, arith, get_or-set_other, get_or-set_same}
-use Rattle.std.proofs.lemmas.Bool.{cond-true, cond-false, cases_Bool, eqb-true, lt-ltb, le-ltb, ltb-true, ltb-false, and_parts, and_from}
+use Rattle.std.proofs.Common.{◌≡◌, ℕ, ◌-◌, ◌<◌, ◌≤◌, true, cond, eqb, ltb, List, length, get_or, set, ℤ, None, Option, sym, refl, ap, ◌∙◌, ⊎_elim, arith, get_or-set_other, get_or-set_same}
+use Rattle.std.proofs.lemmas.Bool.{cond-true, cond-false, cases_Bool, eqb-true, lt-ltb, le-ltb, ltb-false, and_parts, and_from}
 use Rattle.std.specs.Option.{option_map}
 use Rattle.curves.specs.declared.row.Row.{Row}
 use Rattle.curves.specs.Rows.{curve_in}
@@ -12,7 +12,7 @@ use Rattle.vocabulary.specs.Readings.{no_row}
 use Rattle.bodies.specs.Bodies.{standing_bytes, most_steps}
 use Rattle.bodies.specs.Curves.{curve_bytes}
 use Rattle.bodies.specs.Numbers.{word_bytes, number_bytes}
-use Rattle.table.specs.Ranges.{every, amount_ranged, price_ranged, quantity_ranged, row_ranged, values_ranged, ranged}
+use Rattle.table.specs.Ranges.{every, amount_ranged, price_ranged, quantity_ranged, row_ranged}
 use Rattle.table.specs.Holding.{by_kind, at_sub_zero, values_hold, remark_held, holds, ValuesChanged, Changed}
 use Rattle.table.proofs.Keeping.{every_set, parts, together}
 

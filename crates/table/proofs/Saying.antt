@@ -25,7 +25,7 @@ use Rattle.vocabulary.specs.declared.resource.Resource.{Resource}
 use Rattle.vocabulary.specs.Empty.{no_resource}
 use Rattle.vocabulary.specs.Numbers.{product_number, amount_number, run_number, condition_number, test_number}
 use Rattle.vocabulary.specs.Readings.{no_row, values_of, in_range_quantity, own_of, line_of_terms, lines_of}
-use Rattle.bodies.specs.Bodies.{terms_of, terms_bytes, standing_of, standing_bytes}
+use Rattle.bodies.specs.Bodies.{terms_bytes, standing_of, standing_bytes}
 use Rattle.bodies.specs.Curves.{curve_steps, curve_bytes}
 use Rattle.bodies.specs.Numbers.{word, number, word_bytes, number_bytes}
 use Rattle.bodies.proofs.Bytes.{word_back_alone, number_back_alone}

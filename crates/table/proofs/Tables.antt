@@ -1,22 +1,20 @@
 -- A table of which one record or one line is written: its slots.
-use Rattle.std.proofs.Common.{◌≡◌, ℕ, ◌+◌, ◌*◌, ◌<◌, ◌≤◌, Bool, true, false, cond, ◌&&◌, eqb, ltb, ◌≢◌, List, length, get_or, set, replicate, Some, None, Option, sym, refl, ap, ◌∙◌, ⊎_elim, arith, get_or-set_other, get_or-set_same}
-use Rattle.std.proofs.lemmas.Bool.{cond-true, cond-false, cases_Bool, cases_eq, eqb-true, eqb-false, ne_eqb, and_parts, ltb-true}
+use Rattle.std.proofs.Common.{◌≡◌, ℕ, ◌+◌, ◌*◌, ◌<◌, cond, ◌&&◌, eqb, ltb, ◌≢◌, List, length, get_or, set, None, Option, sym, ap, ◌∙◌, ⊎_elim, arith, get_or-set_other, get_or-set_same}
+use Rattle.std.proofs.lemmas.Bool.{cond-false, cases_Bool, cases_eq, ne_eqb, and_parts, ltb-true}
 use Rattle.std.specs.Option.{option_map}
 use Rattle.vocabulary.specs.declared.lines.Terms.{Terms}
 use Rattle.vocabulary.specs.declared.resource.Resource.{Resource}
-use Rattle.vocabulary.specs.Empty.{no_resource, empty_resource}
+use Rattle.vocabulary.specs.Empty.{no_resource}
 use Rattle.bodies.specs.Bodies.{terms_bytes}
 use Rattle.entries.specs.Entries.{head}
 use Rattle.entries.specs.Files.{head_fault}
 use Rattle.entries.specs.Sections.{Head}
 use Rattle.entries.specs.Table.{kinds}
-use Rattle.ledger.specs.Slots.{Slots, place}
-use Rattle.ledger.specs.Ledger.{nothing}
+use Rattle.ledger.specs.Slots.{place}
 use Rattle.ledger.specs.Views.{slots_from}
 use Rattle.ledger.proofs.Viewing.{views}
-use Rattle.table.specs.declared.hour.Table.{Table}
 use Rattle.table.specs.Holding.{holds, Changed}
-use Rattle.table.specs.Tables.{table_holds, slots_of}
+use Rattle.table.specs.Tables.{table_holds}
 
 -- a test that a slot of a kind exists
 pub exists : (f u n m : ℕ) → ◌≡◌ {A = ℕ} (cond (ltb f n && ltb u m) 0 4) 0 → (f < n) × (u < m)

@@ -1,7 +1,6 @@
 -- The body that each slot of a record holds, and a record of which one slot changed.
-use Rattle.std.specs.Prelude.{◌≡◌, ℕ, ◌-◌, Bool, true, cond, List, [], Some, None, Option, ◌==◌, ◌≢◌, nat_lt, slice_index_or}
+use Rattle.std.specs.Prelude.{◌≡◌, ℕ, ◌-◌, true, cond, List, Some, None, Option, ◌==◌, ◌≢◌, nat_lt, slice_index_or}
 use Rattle.std.specs.Option.{option_map}
-use Rattle.curves.specs.declared.row.Row.{Row}
 use Rattle.curves.specs.Rows.{curve_in}
 use Rattle.vocabulary.specs.declared.resource.Values.{Values}
 use Rattle.vocabulary.specs.declared.resource.Remark.{Remark}

@@ -1,11 +1,10 @@
 -- The slots of a table.
-use Rattle.std.specs.Prelude.{ℕ, ◌+◌, ◌*◌, cond, List, None, Option, ◌==◌, slice_index_or}
+use Rattle.std.specs.Prelude.{◌+◌, ◌*◌, cond, List, None, Option, ◌==◌, slice_index_or}
 use Rattle.std.specs.Option.{option_map}
 use Rattle.vocabulary.specs.declared.lines.Terms.{Terms}
 use Rattle.vocabulary.specs.declared.resource.Resource.{Resource}
 use Rattle.vocabulary.specs.Empty.{no_resource}
 use Rattle.bodies.specs.Bodies.{terms_bytes}
-use Rattle.entries.specs.Sections.{Head}
 use Rattle.ledger.specs.Slots.{Slots}
 use Rattle.ledger.specs.Views.{Holding, slots_from}
 use Rattle.table.specs.declared.hour.Table.{Table}

@@ -1,5 +1,5 @@
 -- The verdicts on one resource, from what its records say and the meanings of the bounds.
-use Rattle.std.specs.Prelude.{ℕ, List, ℤ, pos, Some, None, Option}
+use Rattle.std.specs.Prelude.{ℕ, List, pos, Some, None, Option}
 use Rattle.std.specs.Option.{option_map}
 use Rattle.bounds.specs.declared.line.Line.{Line}
 use Rattle.bounds.specs.Meanings.{Meaning}
@@ -9,7 +9,6 @@ use Rattle.kinds.specs.Conduct.{all_pass}
 use Rattle.kinds.specs.Judged.{judged}
 use Rattle.vocabulary.specs.declared.product.Product.{Product}
 use Rattle.vocabulary.specs.declared.product.Product.TheVariants.{Energy}
-use Rattle.vocabulary.specs.declared.condition.Condition.{Condition}
 use Rattle.vocabulary.specs.declared.amount.Amount.{Amount}
 use Rattle.vocabulary.specs.declared.amount.Amount.TheVariants.{StartUp, SpeedNoLoad, RunTime, RampRate}
 use Rattle.vocabulary.specs.declared.test.Test.TheVariants.{ResourceQuantity}

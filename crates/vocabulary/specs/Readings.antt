@@ -1,5 +1,5 @@
 -- What an hour says, apart from how it is stored: lines by condition and test, and each resource's own records.
-use Rattle.std.specs.Prelude.{ℕ, ◌+◌, ◌*◌, Bool, cond, List, [], ℤ, pos, Some, None, Option, nat_le, slice_index_or}
+use Rattle.std.specs.Prelude.{ℕ, ◌+◌, ◌*◌, cond, List, [], ℤ, Some, None, Option, nat_le, slice_index_or}
 use Rattle.bounds.specs.declared.line.Line.{Line}
 use Rattle.bounds.specs.Lines.{line_of}
 use Rattle.curves.specs.declared.step.Step.{Step}
@@ -14,7 +14,6 @@ use Rattle.vocabulary.specs.declared.run.Run.{Run}
 use Rattle.vocabulary.specs.declared.standing.Standing.{Standing}
 use Rattle.vocabulary.specs.declared.lines.Terms.{Terms}
 use Rattle.vocabulary.specs.declared.resource.Values.{Values}
-use Rattle.vocabulary.specs.declared.resource.Remark.{Remark}
 use Rattle.vocabulary.specs.declared.resource.Resource.{Resource}
 use Rattle.vocabulary.specs.Numbers.{product_number, condition_number, amount_number, test_number, run_number}
 use Rattle.vocabulary.specs.Tests.{most_steps}

@@ -1,5 +1,5 @@
 -- Figures on an energy offer in a broad constrained area.
-use Rattle.std.specs.Prelude.{◌≡◌, Bool, List, [], ◌∷◌, map, take, replicate, ℤ, Some, None, Option, slice_set}
+use Rattle.std.specs.Prelude.{◌≡◌, Bool, List, [], ◌∷◌, map, take, replicate, Some, None, Option, slice_set}
 use Rattle.bounds.specs.declared.line.Line.{Line}
 use Rattle.curves.specs.declared.step.Step.{Step}
 use Rattle.curves.specs.Rows.{curve_in}
@@ -11,7 +11,6 @@ use Rattle.vocabulary.specs.declared.test.Test.TheVariants.{EnergyCurve}
 use Rattle.vocabulary.specs.declared.resource.Resource.{Resource}
 use Rattle.vocabulary.specs.Readings.{lines_of, own_of}
 use Rattle.verdicts.specs.Mitigation.{mitigated_curve}
-use Rattle.worked.specs.declared.hour.Steps.{Steps}
 use Rattle.worked.specs.declared.curve_figure.CurveFigure.{CurveFigure}
 use Rattle.worked.specs.Hours.{row_of, terms, standing, energy_resource, market}
 

@@ -1,14 +1,12 @@
 -- The twelve worked figures in one list, and that each holds by the rules alone.
-use Rattle.std.specs.Prelude.{◌≡◌, ℕ, Bool, true, false, List, [], ◌∷◌, ℤ, pos, negsuc, Some, None, Option}
+use Rattle.std.specs.Prelude.{◌≡◌, ℕ, true, false, List, [], ◌∷◌, ℤ, pos, negsuc, Some, None, Option}
 use Rattle.curves.specs.declared.step.Step.{Step}
 use Rattle.curves.specs.Steps.{step}
 use Rattle.vocabulary.specs.declared.condition.Condition.TheVariants.{Broad, Narrow}
 use Rattle.vocabulary.specs.declared.verdict.Verdict.TheVariants.{NotTested, Passed, Failed}
 use Rattle.worked.specs.declared.hour.Steps.{Steps}
-use Rattle.worked.specs.declared.bound_figure.BoundFigure.{BoundFigure}
 use Rattle.worked.specs.declared.bound_figure.Asked.{Asked}
 use Rattle.worked.specs.declared.bound_figure.Asked.TheVariants.{Ceiling, Exemption, Shortfall}
-use Rattle.worked.specs.declared.curve_figure.CurveFigure.{CurveFigure}
 use Rattle.worked.specs.declared.quantity_figure.Held.{Held}
 use Rattle.worked.specs.declared.quantity_figure.QuantityFigure.{QuantityFigure}
 use Rattle.worked.specs.declared.list.Figure.{Figure}

@@ -1,4 +1,4 @@
-use Rattle.std.proofs.Common.{sym, ◌∙◌, inl, inr, ⊎_elim, arith}
+use Rattle.std.proofs.Common.{◌∙◌, inl, inr, ⊎_elim, arith}
 use Rattle.bodies.specs.Bodies.{most_steps}
 use Rattle.bodies.proofs.Stepping.{whole_fault, count_fault}
 use Rattle.bodies.proofs.Streaming.{counted_fault}

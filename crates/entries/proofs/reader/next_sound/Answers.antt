@@ -1,4 +1,4 @@
-use Rattle.std.proofs.Common.{sym, refl, ap, ◌∙◌, arith}
+use Rattle.std.proofs.Common.{refl, ap, ◌∙◌, arith}
 use Rattle.entries.specs.Table.{kinds}
 use Rattle.entries.specs.declared.cursor.Cursor.{Cursor}
 use Rattle.entries.proofs.Reading.{fault_positive, first_stands, rest_short, entry_here, fault_here, past_here}

@@ -1,4 +1,4 @@
-use Rattle.std.proofs.Common.{◌≡◌, sym, ap, ◌∙◌, subst}
+use Rattle.std.proofs.Common.{sym, ap, ◌∙◌, subst}
 use Rattle.entries.specs.Table.{kinds}
 use Rattle.ledger.specs.Slots.{entry_file, WellFormed}
 use Rattle.ledger.proofs.Laws.{reached}

@@ -1,4 +1,4 @@
-use Rattle.std.proofs.Common.{◌≡◌, Ok, Option, sym, ap, ◌∙◌, subst}
+use Rattle.std.proofs.Common.{Ok, Option, ap, ◌∙◌, subst}
 use Rattle.entries.specs.declared.entry.Entry.{Entry}
 use Rattle.entries.specs.Entries.{Raw}
 use Rattle.entries.specs.Files.{head_fault, body_fault, Next}

@@ -1,4 +1,4 @@
-use Rattle.std.proofs.Common.{◌≡◌, get_or, is_some, sym, refl, ap, ◌∙◌, arith}
+use Rattle.std.proofs.Common.{get_or, is_some, sym, ap, ◌∙◌, arith}
 use Rattle.std.proofs.lemmas.Bool.{cond-true, lt-ltb}
 use Rattle.std.specs.Option.{option_map}
 use Rattle.curves.specs.declared.row.Row.{Row}

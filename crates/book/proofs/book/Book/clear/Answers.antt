@@ -3,7 +3,7 @@ use Rattle.entries.specs.Entries.{head}
 use Rattle.entries.specs.Files.{told}
 use Rattle.entries.specs.Table.{kinds}
 use Rattle.ledger.specs.Slots.{Slots, place}
-use Rattle.ledger.specs.Ledger.{Ledger, cleared, fault}
+use Rattle.ledger.specs.Ledger.{cleared, fault}
 use Rattle.book.specs.Ledgers.{ledger_of}
 use Rattle.book.proofs.Answering.{refused, emptied}
 use Rattle.book.proofs.book.Book.clear.Goals as goal

@@ -1,4 +1,4 @@
-use Rattle.std.proofs.Common.{◌≡◌, ℕ, ◌≤◌, sym, subst, rules}
+use Rattle.std.proofs.Common.{ℕ, ◌≤◌, sym, subst, rules}
 use Rattle.charges.specs.Groups.{share}
 use Rattle.charges.proofs.Shares.{known_small}
 use Rattle.charges.proofs.share.Share.of.Goals as goal

@@ -1,4 +1,4 @@
-use Rattle.std.proofs.Common.{◌≤◌, length, arith}
+use Rattle.std.proofs.Common.{arith}
 use Rattle.curves.proofs.Walks.{front_stop, front_end, front_more}
 use Rattle.curves.proofs.curve.Curve.kept_count.Goals as goal
 

@@ -1,7 +1,5 @@
-use Rattle.std.proofs.Common.{◌≡◌, ◌≤◌, length, get_or, arith}
-use Rattle.curves.specs.Curves.{steps_of}
-use Rattle.curves.specs.Steps.{last_end}
-use Rattle.curves.proofs.Walks.{absent_step, last_end_at}
+use Rattle.std.proofs.Common.{◌≤◌, length, arith}
+use Rattle.curves.proofs.Walks.{last_end_at}
 use Rattle.curves.proofs.curve.Curve.last_end.Goals as goal
 
 pub returns : goal.returns

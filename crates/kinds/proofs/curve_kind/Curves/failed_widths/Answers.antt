@@ -1,4 +1,4 @@
-use Rattle.std.proofs.Common.{◌≡◌, ◌≤◌, List, sym, ap, ◌∙◌, subst, zero-add, arith}
+use Rattle.std.proofs.Common.{◌≤◌, List, sym, ap, ◌∙◌, subst, zero-add, arith}
 use Rattle.curves.specs.Curves.{steps_of}
 use Rattle.curves.specs.declared.step.Step.{Step}
 use Rattle.kinds.specs.Conduct.{failed_widths}

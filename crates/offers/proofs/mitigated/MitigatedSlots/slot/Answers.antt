@@ -1,4 +1,4 @@
-use Rattle.std.proofs.Common.{◌≡◌, ◌<◌, sym, ap, ◌∙◌, arith, rules}
+use Rattle.std.proofs.Common.{◌<◌, sym, ap, ◌∙◌, arith, rules}
 use Rattle.charges.specs.Findings.{meant_by}
 use Rattle.entries.specs.Entries.{head}
 use Rattle.ledger.specs.Mitigation.{mitigated_held}
