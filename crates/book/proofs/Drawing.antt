@@ -7,6 +7,7 @@ use Rattle.charges.specs.Tables.{owns_of}
 use Rattle.answers.specs.declared.answer.Answer.{Answer}
 use Rattle.answers.specs.Answers.{answer, listed}
 use Rattle.ledger.specs.Listing.{line_if, listing_line, listing}
+use Rattle.ledger.proofs.Listed.{listing_line_said}
 use Rattle.ledger.specs.Readings.{lines, own}
 use Rattle.ledger.specs.Views.{joined_below}
 use Rattle.table.specs.declared.hour.Table.{Table}
@@ -29,10 +30,9 @@ redrawn {place} {file} {file'} {before} {after} {r} e w = subst (λ f. Written p
 module _ (m : Meanings) (t : Table) where
   pub lines_drawn : (answers : List (Option Answer)) → ((k : ℕ) → k < 32 → get_or answers k None ≡ listed m (lines_of t.lines) (owns_of t.resources) k)
       → wholes.lines_of answers ≡ listing m (slots_of t)
-  unfolding listing_line
   lines_drawn answers made =
       joined_same 32 (line_at answers) (listing_line m (slots_of t))
-      (λ k h. ap (line_if k) (made k h ∙ (λ j. listed m (sym (lines_said t) j) (sym (owns_said t) j) k)))
+      (λ k h. ap (line_if k) (made k h ∙ (λ j. listed m (sym (lines_said t) j) (sym (owns_said t) j) k)) ∙ sym (listing_line_said m (slots_of t) k))
 
   pub answered : (r : ℕ) → answer m (lines_of t.lines) (owns_of t.resources) r ≡ answer m (lines (slots_of t)) (own (slots_of t)) r
   answered r = λ j. answer m (sym (lines_said t) j) (sym (owns_said t) j) r

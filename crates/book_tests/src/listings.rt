@@ -13,6 +13,7 @@ mod tests {
     use curves::step::Step;
     use histories::call::Call;
     use histories::compare::{Comparison, compare};
+    use histories::drawn::same_bytes;
     use histories::file::File;
     use std::process::Abort;
     use supplier::Margin;
@@ -254,9 +255,9 @@ mod tests {
         assert!(rt; r.alike && r.taken);
         assert!(rt; says(&r.first.listing, b"02 FNNNNNNN FNNN NNNN NNNN NNNN 0\n"));
         assert!(rt; says(&r.second.listing, b"02 PNNNNNNN FNNN NNNN NNNN NNNN 0\n"));
-        assert!(rt; r.second.mitigated.same_bytes(&r.second.entries));
-        assert!(rt; !r.first.mitigated.same_bytes(&r.first.entries));
-        assert!(rt; r.again.same_bytes(&r.first.mitigated));
+        assert!(rt; same_bytes(&r.second.mitigated, &r.second.entries));
+        assert!(rt; !same_bytes(&r.first.mitigated, &r.first.entries));
+        assert!(rt; same_bytes(&r.again, &r.first.mitigated));
         // behind the mark, two lines and the standing, the reference's steps in the offer's place
         assert!(rt;
             r.first.mitigated.length >= 79 && says_at(&r.first.mitigated, 55, &reference[5..29])

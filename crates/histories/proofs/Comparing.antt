@@ -78,6 +78,8 @@ module _ (m n : Meanings) (lawful-m : Lawful m) (lawful-n : Lawful n) (first sec
       record {
         first_files = a;
         second_files = b;
+        first_entry_file = a.entries;
+        second_entry_file = b.entries;
         equal_files_equal_slots = to;
         equal_slots_equal_files = back;
         alike_says_which = Decides-like r.alike to back d;

@@ -1,4 +1,3 @@
 pub mod Replaying
-pub mod Drawing
 pub mod Comparing
 pub mod Laws

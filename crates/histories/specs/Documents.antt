@@ -1,5 +1,5 @@
 -- The three files that leave a book, drawn from slots and the meanings of the bounds.
-use Rattle.std.specs.Prelude.{◌≡◌, ℕ, List, take}
+use Rattle.std.specs.Prelude.{◌≡◌, ℕ, ◌≤◌, List, take}
 use Rattle.charges.specs.Findings.{Meanings}
 use Rattle.entries.specs.Table.{kinds}
 use Rattle.ledger.specs.Slots.{Slots, entry_file}
@@ -12,6 +12,10 @@ use Rattle.histories.specs.declared.file.File.{File}
 
 abbrev pub bytes_of : File → List ℕ
 bytes_of f = take f.length f.bytes
+
+pub record Holds (bytes : List ℕ) (f : File) : Type 0 where
+  pub same : bytes_of f ≡ bytes
+  pub short : f.length ≤ 31319
 
 abbrev pub drawn : Document → Meanings → Slots → List ℕ
 drawn Entries m s = entry_file kinds s

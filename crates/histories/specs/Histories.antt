@@ -41,10 +41,13 @@ pub record Compared (m n : Meanings) (first second : List Act) (r : Comparison) 
   -- each book's three files are those drawn from its list's ledger and its bounds' meanings
   pub first_files : DrawnFrom m (slots_after first) r.first
   pub second_files : DrawnFrom n (slots_after second) r.second
-  -- the entry files are equal exactly where the ledgers end with equal slots, and the answer says which
-  pub equal_files_equal_slots : bytes_of r.first.entries ≡ bytes_of r.second.entries → slots_after first ≡ slots_after second
-  pub equal_slots_equal_files : slots_after first ≡ slots_after second → bytes_of r.first.entries ≡ bytes_of r.second.entries
-  pub alike_says_which : Decides r.alike (slots_after first ≡ slots_after second)
+  -- each book's entry file is the one drawn from its list's ledger
+  pub first_entry_file : bytes_of r.first.entries ≡ entry_file kinds (ledger kinds first).slots
+  pub second_entry_file : bytes_of r.second.entries ≡ entry_file kinds (ledger kinds second).slots
+  -- the files are equal exactly where the ledgers end with equal slots, and the answer says which
+  pub equal_files_equal_slots : bytes_of r.first.entries ≡ bytes_of r.second.entries → (ledger kinds first).slots ≡ (ledger kinds second).slots
+  pub equal_slots_equal_files : (ledger kinds first).slots ≡ (ledger kinds second).slots → bytes_of r.first.entries ≡ bytes_of r.second.entries
+  pub alike_says_which : Decides r.alike ((ledger kinds first).slots ≡ (ledger kinds second).slots)
   -- bounds that agree on every line, reference and value leave no difference
   pub agreeing_bounds_equal_listings : Agree m n → slots_after first ≡ slots_after second → bytes_of r.first.listing ≡ bytes_of r.second.listing
   pub agreeing_bounds_equal_mitigated : Agree m n → slots_after first ≡ slots_after second → bytes_of r.first.mitigated ≡ bytes_of r.second.mitigated
@@ -61,6 +64,6 @@ pub record Compared (m n : Meanings) (first second : List Act) (r : Comparison) 
 
 -- an entry file is taken by a new book and written again byte for byte
 pub record WrittenAgain (calls : List Act) (r : Rewritten) : Type 0 where
-  pub entry_file_of_calls : bytes_of r.before ≡ entry_file kinds (slots_after calls)
+  pub entry_file_of_calls : bytes_of r.before ≡ entry_file kinds (ledger kinds calls).slots
   pub is_taken : r.taken ≡ true
   pub same_bytes : bytes_of r.after ≡ bytes_of r.before

@@ -4,8 +4,7 @@ ghost use Rattle.histories.specs.Acts.{acts_of};
 ghost use Rattle.histories.specs.Histories.{WrittenAgain};
 
 use crate::call::Call;
-use crate::document::Document;
-use crate::drawn::file;
+use crate::drawn::entry_file;
 use crate::file::File;
 use crate::replay::replay;
 use book::book::Book;
@@ -34,10 +33,10 @@ pub fn write_again<
     ensures { WrittenAgain (acts_of calls.now) result }
 {
     let one = replay(places, calls);
-    let before = file(&one, Document::Entries);
+    let before = entry_file(&one);
     let mut other = Book::open(new_places);
     let taken = other.load(before.part()).is_ok();
-    let after = file(&other, Document::Entries);
+    let after = entry_file(&other);
     Rewritten {
         before,
         taken,

@@ -4,9 +4,10 @@ ghost use Rattle.charges.specs.Findings.{meant_by};
 ghost use Rattle.histories.specs.Acts.{acts_of};
 ghost use Rattle.histories.specs.Histories.{Compared};
 
+pub use crate::again::{Rewritten, write_again};
 use crate::call::Call;
 use crate::document::Document;
-use crate::drawn::{Files, file};
+use crate::drawn::{Files, file, same_bytes};
 use crate::file::File;
 use crate::replay::replay;
 use book::book::Book;
@@ -51,7 +52,7 @@ pub fn compare<
     let mut new = Book::open(places);
     let taken = new.load(left.mitigated.part()).is_ok();
     Comparison {
-        alike: left.entries.same_bytes(&right.entries),
+        alike: same_bytes(&left.entries, &right.entries),
         first: left,
         second: right,
         taken,

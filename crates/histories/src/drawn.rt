@@ -2,13 +2,13 @@
 ghost use Rattle.std.specs.Prelude.{◌≡◌, ◌≤◌, length, Decides};
 ghost use Rattle.charges.specs.Findings.{meant_by};
 ghost use Rattle.entries.specs.Table.{kinds};
-ghost use Rattle.ledger.specs.Slots.{WellFormed};
+ghost use Rattle.ledger.specs.Slots.{WellFormed, entry_file as entry_file_of};
 ghost use Rattle.table.specs.Tables.{slots_of};
 ghost use Rattle.files.specs.Placing.{Written};
-ghost use Rattle.histories.specs.Documents.{bytes_of, drawn as drawn_of, DrawnFrom};
+ghost use Rattle.histories.specs.Documents.{bytes_of, drawn as drawn_of, Holds, DrawnFrom};
 
 use crate::document::Document;
-use crate::file::File;
+pub use crate::file::File;
 use bodies::fault::Refusal;
 use book::book::Book;
 use bounds::bound::{BoundAbove, BoundBelow};
@@ -18,12 +18,6 @@ impl File {
         ensures { result.now ≡ bytes_of self.now }
     {
         &self.bytes[0..self.length]
-    }
-
-    pub fn same_bytes(&self, other: &File) -> bool
-        ensures { Decides result (bytes_of self.now ≡ bytes_of other.now) }
-    {
-        self.part() == other.part()
     }
 }
 
@@ -61,10 +55,26 @@ pub fn file<C: BoundBelow, A: BoundBelow, I: BoundBelow, Q: BoundAbove>(
     ensures { bytes_of result ≡ drawn_of document (meant_by C.Bound.meaning A.Bound.meaning I.Bound.meaning Q.Bound.meaning book.now.places) (slots_of book.now.table) }
 {
     let mut bytes = [0; 31_319];
-    let Ok(length) = write_document(book, document, &mut bytes) else {
-        return File { bytes, length: 0 };
-    };
-    File { bytes, length }
+    match write_document(book, document, &mut bytes) {
+        Ok(length) => File { bytes, length },
+        Err(_) => File { bytes, length: 0 },
+    }
+}
+
+// The entry file of a book that some list of calls leads to.
+pub fn entry_file<C: BoundBelow, A: BoundBelow, I: BoundBelow, Q: BoundAbove>(
+    book: &Book<C, A, I, Q>,
+) -> File
+    requires { WellFormed kinds (slots_of book.now.table) }
+    ensures { Holds (entry_file_of kinds (slots_of book.now.table)) result }
+{
+    file(book, Document::Entries)
+}
+
+pub fn same_bytes(one: &File, other: &File) -> bool
+    ensures { Decides result (bytes_of one.now ≡ bytes_of other.now) }
+{
+    one.part() == other.part()
 }
 
 impl Files {
@@ -76,7 +86,7 @@ impl Files {
         ensures { DrawnFrom (meant_by C.Bound.meaning A.Bound.meaning I.Bound.meaning Q.Bound.meaning book.now.places) (slots_of book.now.table) result }
     {
         Files {
-            entries: file(book, Document::Entries),
+            entries: entry_file(book),
             mitigated: file(book, Document::Mitigated),
             listing: file(book, Document::Listing),
         }

@@ -14,8 +14,14 @@ of_products f = f Energy ∷ f Spinning ∷ f NonSpinning ∷ f ThirtyMinute ∷
 abbrev pub of_parameters : {A : Type 0} → (Parameter → A) → List A
 of_parameters f = of_products (λ product. f (Curve product)) ++ (f (Amount StartUp) ∷ f (Amount SpeedNoLoad) ∷ f (Amount RunTime) ∷ f (Amount RampRate) ∷ [])
 
+-- the parameters by number
+abbrev parameters : List Parameter
+parameters =
+    Curve Energy ∷ Curve Spinning ∷ Curve NonSpinning ∷ Curve ThirtyMinute
+    ∷ Amount StartUp ∷ Amount SpeedNoLoad ∷ Amount RunTime ∷ Amount RampRate ∷ []
+
 abbrev pub parameter_at : ℕ → Parameter
-parameter_at n = slice_index_or (of_parameters (λ parameter. parameter)) n (Curve Energy)
+parameter_at n = slice_index_or parameters n (Curve Energy)
 
 -- the product that a parameter belongs to: amounts are of energy
 abbrev pub product_of : Parameter → Product

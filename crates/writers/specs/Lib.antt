@@ -1,3 +1,4 @@
 -- The statements on writing.
 pub mod Buffers
 pub mod Backs
+pub mod Reads

@@ -38,7 +38,8 @@ pub fn write_entry(out: &mut [u8], kind: u8, first: u8, sub: u8, body: &[u8]) ->
     requires { (length body.now < 65536) × (5 + length body.now ≤ length out.old) }
     ensures len { result ≡ 5 + length body.now }
     ensures bytes { out.new ≡ onto (entry_bytes (head kind first sub) body.now) out.old }
-    ensures back { entry_at 0 out.new ≡ raw (head kind first sub) body.now 0 }
+    ensures back { entry_at 0 (entry_bytes (head kind first sub) body.now) ≡ raw (head kind first sub) body.now 0 }
+    ensures reads { entry_at 0 out.new ≡ raw (head kind first sub) body.now 0 }
 {
     let at = write_head(out, kind, first, sub, body.len());
     at + write_bytes(&mut out[at..], body)

@@ -8,6 +8,7 @@ ghost use Rattle.entries.specs.Files.{entry_bytes, body_of};
 ghost use Rattle.bodies.specs.Numbers.{word_bytes as bytes_of_word, number_bytes as bytes_of_number};
 ghost use Rattle.writers.specs.Backs.{LineBack, StandingBack, NumberBack, QuantityBack, CurveBack};
 ghost use Rattle.writers.specs.Buffers.{onto};
+ghost use Rattle.writers.specs.Reads.{LineReads, StandingReads, NumberReads, QuantityReads, CurveReads};
 
 use crate::body::{line_bytes, standing_bytes, step_bytes};
 use crate::bytes::{write_bytes, write_entry, write_head};
@@ -21,7 +22,8 @@ pub fn write_line(out: &mut [u8], condition: u8, test: u8, terms: &Terms) -> usi
     requires { 17 ≤ length out.old }
     ensures len { result ≡ 17 }
     ensures bytes { out.new ≡ onto (entry_bytes (head 1 condition test) (terms_bytes terms.now)) out.old }
-    ensures back { LineBack test terms.now (body_of out.new) }
+    ensures back { LineBack test terms.now }
+    ensures reads { LineReads test terms.now (body_of out.new) }
 {
     write_entry(out, 1, condition, test, &line_bytes(terms))
 }
@@ -30,7 +32,8 @@ pub fn write_standing(out: &mut [u8], resource: u8, standing: &Standing) -> usiz
     requires { 11 ≤ length out.old }
     ensures len { result ≡ 11 }
     ensures bytes { out.new ≡ onto (entry_bytes (head 2 resource 0) (bytes_of_standing standing.now)) out.old }
-    ensures back { StandingBack standing.now (body_of out.new) }
+    ensures back { StandingBack standing.now }
+    ensures reads { StandingReads standing.now (body_of out.new) }
 {
     write_entry(out, 2, resource, 0, &standing_bytes(standing))
 }
@@ -40,7 +43,8 @@ pub fn write_number(out: &mut [u8], kind: u8, resource: u8, sub: u8, value: i32)
     requires { 9 ≤ length out.old }
     ensures len { result ≡ 9 }
     ensures bytes { out.new ≡ onto (entry_bytes (head kind resource sub) (bytes_of_number value)) out.old }
-    ensures back { NumberBack value (body_of out.new) }
+    ensures back { NumberBack value }
+    ensures reads { NumberReads value (body_of out.new) }
 {
     write_entry(out, kind, resource, sub, &number_bytes(value))
 }
@@ -49,7 +53,8 @@ pub fn write_quantity(out: &mut [u8], resource: u8, product: u8, tenths: u32) ->
     requires { 9 ≤ length out.old }
     ensures len { result ≡ 9 }
     ensures bytes { out.new ≡ onto (entry_bytes (head 5 resource product) (bytes_of_word tenths)) out.old }
-    ensures back { QuantityBack tenths (body_of out.new) }
+    ensures back { QuantityBack tenths }
+    ensures reads { QuantityReads tenths (body_of out.new) }
 {
     write_entry(out, 5, resource, product, &word_bytes(tenths))
 }
@@ -58,7 +63,8 @@ pub fn write_remark(out: &mut [u8], resource: u8, remark: &Remark) -> usize
     requires { (remark.now.count ≤ 120) × (5 + remark.now.count ≤ length out.old) }
     ensures len { result ≡ 5 + remark.now.count }
     ensures bytes { out.new ≡ onto (entry_bytes (head 7 resource 0) (remark_bytes remark.now)) out.old }
-    ensures back { 1 ≤ remark.now.count → remark_fault (body_of out.new) ≡ 0 }
+    ensures back { 1 ≤ remark.now.count → remark_fault (remark_bytes remark.now) ≡ 0 }
+    ensures reads { 1 ≤ remark.now.count → remark_fault (body_of out.new) ≡ 0 }
 {
     write_entry(out, 7, resource, 0, &remark.bytes[0..remark.count])
 }
@@ -81,7 +87,8 @@ pub fn write_curve(out: &mut [u8], kind: u8, resource: u8, parameter: u8, row: &
     requires { (row.now.count ≤ 20) × (5 + 8 * row.now.count ≤ length out.old) }
     ensures len { result ≡ 5 + 8 * row.now.count }
     ensures bytes { out.new ≡ onto (entry_bytes (head kind resource parameter) (curve_bytes (row_steps row.now))) out.old }
-    ensures back { CurveBack parameter (row_steps row.now) (body_of out.new) }
+    ensures back { CurveBack parameter (row_steps row.now) }
+    ensures reads { CurveReads parameter (row_steps row.now) (body_of out.new) }
 {
     let at = write_head(out, kind, resource, parameter, 8 * row.count);
     at + write_steps(&mut out[at..], *row)

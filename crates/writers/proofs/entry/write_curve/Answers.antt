@@ -3,7 +3,7 @@ use Rattle.curves.specs.Rows.{row_steps}
 use Rattle.bodies.specs.Curves.{curve_bytes}
 use Rattle.entries.specs.Entries.{head}
 use Rattle.entries.specs.Files.{head_bytes}
-use Rattle.writers.specs.Backs.{CurveBack}
+use Rattle.writers.specs.Reads.{CurveReads}
 use Rattle.writers.proofs.Backs.{body_back, curve_back}
 use Rattle.writers.proofs.Lending.{behind, headed}
 use Rattle.writers.proofs.entry.write_curve.Goals as goal
@@ -18,8 +18,10 @@ returns c =
     behind out _ _ (head_bytes h n) body _ c.write_head-at.ensures.len c.write_head-at.ensures.bytes c.write_steps.ensures.bytes
     ∙ headed h n body out (sym c.write_steps.ensures.len ∙ c.write_steps.ensures.whole) in
     let steps = row_steps c.args.row.now in
+    let law = curve_back c.args.parameter steps in
     record {
       len = omega arith;
       bytes = written;
-      back = subst (CurveBack c.args.parameter steps) (sym (body_back h body out _ written)) (curve_back c.args.parameter steps);
+      back = record { value = law.value; fault = law.fault };
+      reads = subst (CurveReads c.args.parameter steps) (sym (body_back h body out _ written)) law;
     }

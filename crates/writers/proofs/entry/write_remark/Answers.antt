@@ -9,5 +9,11 @@ pub returns : goal.returns
 returns c =
     let r = c.args.remark.now in
     let long : length (remark_bytes r) ≡ r.count = search rules in
-    let said = ap (λ (e : Raw). e.body) c.write_entry.ensures.back in
-    record { len = search rules; bytes = search rules; back = λ some. ap remark_fault (said ∙ ap (λ n. take n r.bytes) (sub-zero r.count)) ∙ remark_back (remark_bytes r) r.count long c.requires.0 some }
+    let said = ap (λ (e : Raw). e.body) c.write_entry.ensures.reads in
+    let law = remark_back (remark_bytes r) r.count long c.requires.0 in
+    record {
+      len = search rules;
+      bytes = search rules;
+      back = law;
+      reads = λ some. ap remark_fault (said ∙ ap (λ n. take n r.bytes) (sub-zero r.count)) ∙ law some;
+    }

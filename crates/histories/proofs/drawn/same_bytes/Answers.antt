@@ -1,7 +1,7 @@
 use Rattle.std.proofs.Common.{sym, ◌∙◌}
 use Rattle.std.proofs.lemmas.Slice.Eq.{slice_eq-Decides}
 use Rattle.std.proofs.lemmas.Bool.Decides.{Decides-like, Decides-eqb}
-use Rattle.histories.proofs.file.File.same_bytes.Goals as goal
+use Rattle.histories.proofs.drawn.same_bytes.Goals as goal
 
 pub returns : goal.returns
 returns c =
