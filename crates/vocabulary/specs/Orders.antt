@@ -12,7 +12,7 @@ of_products f = f Energy ∷ f Spinning ∷ f NonSpinning ∷ f ThirtyMinute ∷
 
 -- something of each parameter: the products' curves, then the amounts
 abbrev pub of_parameters : {A : Type 0} → (Parameter → A) → List A
-of_parameters f = of_products (λ product. f (Curve product)) ++ (f (Amount StartUp) ∷ f (Amount SpeedNoLoad) ∷ f (Amount RunTime) ∷ f (Amount RampRate) ∷ [])
+of_parameters f = of_products (λ p. f (Curve p)) ++ (f (Amount StartUp) ∷ f (Amount SpeedNoLoad) ∷ f (Amount RunTime) ∷ f (Amount RampRate) ∷ [])
 
 -- the parameters by number
 abbrev parameters : List Parameter
