@@ -8,6 +8,7 @@ ghost use Rattle.ledger.specs.Ledger.{posted, cleared, loaded, closed, empty as 
 ghost use Rattle.ledger.specs.Listing.{listing as listing_of};
 ghost use Rattle.ledger.specs.Mitigation.{mitigated_file};
 ghost use Rattle.ledger.specs.Slots.{entry_file};
+ghost use Rattle.table.specs.Ranges.{AllRanged};
 ghost use Rattle.table.specs.Tables.{slots_of};
 ghost use Rattle.files.specs.Placing.{Written};
 ghost use Rattle.book.specs.Ledgers.{ledger_of};
@@ -39,6 +40,7 @@ impl<C: BoundBelow, A: BoundBelow, I: BoundBelow, Q: BoundAbove> Book<C, A, I, Q
     pub fn open(places: Places<C, A, I, Q>) -> Book<C, A, I, Q>
         ensures ledger { ledger_of result.table result.is_open ≡ no_calls kinds }
         ensures bounds { result.places ≡ places }
+        ensures ranged { AllRanged result.table }
     {
         Book {
             table: Table::empty(),
@@ -52,6 +54,7 @@ impl<C: BoundBelow, A: BoundBelow, I: BoundBelow, Q: BoundAbove> Book<C, A, I, Q
         ensures answer { told result ≡ fault_of kinds (ledger_of self.old.table self.old.is_open) closed }
         ensures ledger { ledger_of self.new.table self.new.is_open ≡ step kinds (ledger_of self.old.table self.old.is_open) closed }
         ensures bounds { self.new.places ≡ self.old.places }
+        ensures ranged { AllRanged self.old.table → AllRanged self.new.table }
     {
         if !self.is_open {
             return Err(refusal(Fault::Closed));
@@ -65,6 +68,7 @@ impl<C: BoundBelow, A: BoundBelow, I: BoundBelow, Q: BoundAbove> Book<C, A, I, Q
         ensures answer { told result ≡ fault_of kinds (ledger_of self.old.table self.old.is_open) (posted bytes.now) }
         ensures ledger { ledger_of self.new.table self.new.is_open ≡ step kinds (ledger_of self.old.table self.old.is_open) (posted bytes.now) }
         ensures bounds { self.new.places ≡ self.old.places }
+        ensures ranged { AllRanged self.old.table → AllRanged self.new.table }
     {
         let entry = match read_posted(bytes) {
             Ok(entry) => entry,
@@ -82,6 +86,7 @@ impl<C: BoundBelow, A: BoundBelow, I: BoundBelow, Q: BoundAbove> Book<C, A, I, Q
         ensures answer { told result ≡ fault_of kinds (ledger_of self.old.table self.old.is_open) (loaded file.now) }
         ensures ledger { ledger_of self.new.table self.new.is_open ≡ step kinds (ledger_of self.old.table self.old.is_open) (loaded file.now) }
         ensures bounds { self.new.places ≡ self.old.places }
+        ensures ranged { AllRanged self.old.table → AllRanged self.new.table }
     {
         check_file(file)?;
         if !self.is_open {
@@ -96,6 +101,7 @@ impl<C: BoundBelow, A: BoundBelow, I: BoundBelow, Q: BoundAbove> Book<C, A, I, Q
         ensures answer { told result ≡ fault_of kinds (ledger_of self.old.table self.old.is_open) (cleared (head kind first sub)) }
         ensures ledger { ledger_of self.new.table self.new.is_open ≡ step kinds (ledger_of self.old.table self.old.is_open) (cleared (head kind first sub)) }
         ensures bounds { self.new.places ≡ self.old.places }
+        ensures ranged { AllRanged self.old.table → AllRanged self.new.table }
     {
         if let Some(fault) = head_fault(kind, first, sub) {
             return Err(refusal(fault));
@@ -119,7 +125,7 @@ impl<C: BoundBelow, A: BoundBelow, I: BoundBelow, Q: BoundAbove> Book<C, A, I, Q
 
     // Writes the mitigated file, offers as the rules leave them, from a place of the buffer on, and says how long it is.
     pub fn write_mitigated(&self, out: &mut [u8], place: usize) -> Result<usize, Refusal>
-        ensures { Written place (mitigated_file (meant_by C.Bound.meaning A.Bound.meaning I.Bound.meaning Q.Bound.meaning self.now.places) (slots_of self.now.table)) out.old out.new result }
+        ensures { AllRanged self.now.table → Written place (mitigated_file (meant_by C.Bound.meaning A.Bound.meaning I.Bound.meaning Q.Bound.meaning self.now.places) (slots_of self.now.table)) out.old out.new result }
     {
         let offers = Mitigated {
             table: &self.table,
@@ -130,8 +136,8 @@ impl<C: BoundBelow, A: BoundBelow, I: BoundBelow, Q: BoundAbove> Book<C, A, I, Q
 
     // Writes the listing from a place of the buffer on, and says how long it is.
     pub fn write_listing(&self, out: &mut [u8], place: usize) -> Result<usize, Refusal>
-        ensures written { Written place (listing_of (meant_by C.Bound.meaning A.Bound.meaning I.Bound.meaning Q.Bound.meaning self.now.places) (slots_of self.now.table)) out.old out.new result }
-        ensures short { length (listing_of (meant_by C.Bound.meaning A.Bound.meaning I.Bound.meaning Q.Bound.meaning self.now.places) (slots_of self.now.table)) ≤ 1696 }
+        ensures written { AllRanged self.now.table → Written place (listing_of (meant_by C.Bound.meaning A.Bound.meaning I.Bound.meaning Q.Bound.meaning self.now.places) (slots_of self.now.table)) out.old out.new result }
+        ensures short { AllRanged self.now.table → length (listing_of (meant_by C.Bound.meaning A.Bound.meaning I.Bound.meaning Q.Bound.meaning self.now.places) (slots_of self.now.table)) ≤ 1696 }
     {
         let answers = listed(&self.places, &self.table.lines, &self.table.resources);
         write_listing(&answers, out, place)
@@ -139,7 +145,7 @@ impl<C: BoundBelow, A: BoundBelow, I: BoundBelow, Q: BoundAbove> Book<C, A, I, Q
 
     // Fills the record with the verdicts on a resource and its charges.
     pub fn question(&self, resource: u8, answer: &mut Answer) -> Result<(), Refusal>
-        ensures { Asked (meant_by C.Bound.meaning A.Bound.meaning I.Bound.meaning Q.Bound.meaning self.now.places) (slots_of self.now.table) resource answer.old answer.new result }
+        ensures { AllRanged self.now.table → Asked (meant_by C.Bound.meaning A.Bound.meaning I.Bound.meaning Q.Bound.meaning self.now.places) (slots_of self.now.table) resource answer.old answer.new result }
     {
         if resource >= 32 {
             return Err(refusal(Fault::Slot));

@@ -1,6 +1,6 @@
 -- What a table's slots hold once its offers are mitigated.
-use Rattle.std.proofs.Common.{◌≡◌, ℕ, zero, suc, ◌<◌, Bool, true, false, cond, List, get_or, Option, refl, ◌∙◌, arith}
-use Rattle.std.proofs.lemmas.Bool.{cond-false, ne_eqb}
+use Rattle.std.proofs.Common.{◌≡◌, ℕ, zero, suc, ◌<◌, Bool, true, false, cond, List, get_or, Option, sym, refl, ◌∙◌, subst, ⊎_elim, arith}
+use Rattle.std.proofs.lemmas.Bool.{cond-false, ne_eqb, cases_eq}
 use Rattle.std.specs.Option.{option_map}
 use Rattle.kinds.specs.Judged.{replaced}
 use Rattle.vocabulary.specs.declared.parameter.Parameter.{Parameter}
@@ -20,8 +20,11 @@ use Rattle.ledger.specs.Mitigation.{substituted, mitigated_bytes, mitigated_body
 use Rattle.ledger.proofs.Holdings.{held_from}
 use Rattle.table.specs.declared.hour.Table.{Table}
 use Rattle.table.specs.Holding.{values_hold}
+use Rattle.table.specs.Ranges.{AllRanged}
 use Rattle.table.specs.Tables.{table_holds, slots_of}
 use Rattle.table.proofs.Saying.{lines_said, own_said, offer_held}
+use Rattle.table.proofs.Tables.{exists}
+use Rattle.offers.specs.Rows.{mitigated_rows}
 
 -- the bytes of a parameter
 abbrev level_bytes : Levels → Parameter → Option (List ℕ)
@@ -50,13 +53,26 @@ left : (m : Meanings) (lines : Lines) (o : Own) (p : Parameter) → mitigated_bo
 left m lines o (Curve product) = chosen curve_bytes _ (substituted m lines o (Curve product)) _ _
 left m lines o (Amount amount) = chosen number_bytes _ (substituted m lines o (Amount amount)) _ _
 
-module _ (m : Meanings) (t : Table) where
-  pub offer_is : (i u : ℕ) → u < 8 → mitigated_held m (slots_of t) (head 3 i u) ≡ mitigated_bytes m (lines_of t.lines) (own_of (get_or t.resources i no_resource)) (parameter_at u)
+-- by rows and by slots the same, where every number is in its range
+module _ (m : Meanings) (t : Table) (fit : AllRanged t) where
+  offer_is : (i u : ℕ) → u < 8 → mitigated_rows m t (head 3 i u) ≡ mitigated_held m (slots_of t) (head 3 i u)
   offer_is i u h =
-      let held = offer_held t i u h ∙ values_bytes (get_or t.resources i no_resource).offer u h in
-      (λ j. mitigated_body m (lines_said t j) (own_said t i j) (parameter_at u) (held j))
-      ∙ left m (lines_of t.lines) (own_of (get_or t.resources i no_resource)) (parameter_at u)
+      let held = offer_held t fit i u h ∙ values_bytes (get_or t.resources i no_resource).offer u h in
+      sym ((λ j. mitigated_body m (lines_said t fit j) (own_said t fit i j) (parameter_at u) (held j))
+      ∙ left m (lines_of t.lines) (own_of (get_or t.resources i no_resource)) (parameter_at u))
 
-  pub other_is : (h : Head) → (h.kind ≡ 3 → ⊥) → head_fault kinds h ≡ 0 → mitigated_held m (slots_of t) h ≡ table_holds t.lines t.resources h
+  other_is : (h : Head) → (h.kind ≡ 3 → ⊥) → head_fault kinds h ≡ 0 → mitigated_rows m t h ≡ mitigated_held m (slots_of t) h
   unfolding slots_of
-  other_is h ne there = cond-false _ _ _ (ne_eqb h.kind 3 ne) ∙ held_from (table_holds t.lines t.resources) h there
+  other_is h ne there =
+      let no = ne_eqb h.kind 3 ne in
+      cond-false _ _ _ no ∙ sym (cond-false _ _ _ no ∙ held_from (table_holds t.lines t.resources) h there)
+
+  pub rows_said : (h : Head) → head_fault kinds h ≡ 0 → mitigated_rows m t h ≡ mitigated_held m (slots_of t) h
+  rows_said h there =
+      ⊎_elim
+      (λ e.
+      let P : ℕ → Type 0 = λ k. head_fault kinds (head k h.first h.sub) ≡ 0 in
+      let few : h.sub < 8 = (exists h.first h.sub 32 8 (subst P e there)).1 in
+      (λ j. mitigated_rows m t (head (e j) h.first h.sub)) ∙ offer_is h.first h.sub few ∙ (λ j. mitigated_held m (slots_of t) (head (sym e j) h.first h.sub)))
+      (λ ne. other_is h ne there)
+      (cases_eq h.kind 3)

@@ -1,1 +1,2 @@
--- Nothing is defined here.
+-- The statements on mitigated offers.
+pub mod Rows

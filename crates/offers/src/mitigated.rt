@@ -7,10 +7,10 @@ ghost use Rattle.vocabulary.specs.Readings.{lines_of, own_of};
 ghost use Rattle.charges.specs.Findings.{meant_by};
 ghost use Rattle.bodies.specs.Curves.{curve_bytes};
 ghost use Rattle.entries.specs.Entries.{head};
-ghost use Rattle.ledger.specs.Mitigation.{mitigated_bytes, mitigated_held};
+ghost use Rattle.ledger.specs.Mitigation.{mitigated_bytes};
 ghost use Rattle.ledger.specs.Slots.{entry_of};
-ghost use Rattle.table.specs.Tables.{slots_of};
 ghost use Rattle.files.specs.Fillings.{slot_bytes, Sound};
+ghost use Rattle.offers.specs.Rows.{mitigated_rows};
 
 use bounds::bound::{BoundAbove, BoundBelow};
 use curves::curve::Curve;
@@ -83,7 +83,7 @@ fn offer_slot<C: BoundBelow, A: BoundBelow, I: BoundBelow, Q: BoundAbove>(
 
 impl<'a, C: BoundBelow, A: BoundBelow, I: BoundBelow, Q: BoundAbove> Slots
     for Mitigated<'a, C, A, I, Q> {
-    ghost holding = { λ s. mitigated_held (meant_by C.Bound.meaning A.Bound.meaning I.Bound.meaning Q.Bound.meaning s.places.now) (slots_of s.table.now) };
+    ghost holding = { λ s. mitigated_rows (meant_by C.Bound.meaning A.Bound.meaning I.Bound.meaning Q.Bound.meaning s.places.now) s.table.now };
 
     fn slot(&self, kind: u8, first: u8, sub: u8) -> Option<Filled> {
         match kind {

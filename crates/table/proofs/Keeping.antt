@@ -8,7 +8,7 @@ use Rattle.vocabulary.specs.declared.lines.Terms.{Terms}
 use Rattle.vocabulary.specs.declared.resource.Resource.{Resource}
 use Rattle.vocabulary.specs.Empty.{empty_resource, no_resource}
 use Rattle.bodies.specs.Bodies.{between, most_amount}
-use Rattle.table.specs.Ranges.{every, amount_ranged, price_ranged, quantity_ranged, terms_ranged, row_ranged, values_ranged, ranged}
+use Rattle.table.specs.Ranges.{every, amount_ranged, price_ranged, quantity_ranged, terms_ranged, row_ranged, values_ranged, ranged, AllRanged}
 
 module _ {A : Type 0} (test : A → Bool) where
   pub every_set : (xs : List A) (i : ℕ) (x : A) → test x ≡ true → every test xs ≡ true → every test (set xs i x) ≡ true
@@ -55,13 +55,15 @@ empty_ranged =
     let values : values_ranged empty_resource.offer ≡ true = and_from _ _ (every_same row_ranged 4 empty_row refl) (every_same amount_ranged 4 None refl) in
     together empty_resource (record { offer = values; reference = values; quantities = every_same quantity_ranged 4 None refl; prices = every_same price_ranged 12 None refl })
 
--- the ghost fields of a table of which one record, or one line, is written
-pub record_stays : (lines : List (Option Terms)) (rs : List Resource) (i : ℕ) (r : Resource) → length rs ≡ 32 → every terms_ranged lines ≡ true → every ranged rs ≡ true
-    → (ranged (get_or rs i no_resource) ≡ true → ranged r ≡ true)
-    → record { whole : length (set rs i r) ≡ 32; terms : every terms_ranged lines ≡ true; records : every ranged (set rs i r) ≡ true }
-record_stays lines rs i r whole terms records kept =
-    record { whole = length-set rs i r ∙ whole; terms = terms; records = every_set ranged rs i r (kept (every_at ranged rs i no_resource refl records)) records }
+-- a table of which one record, or one line, is written
+pub record_stays : (lines : List (Option Terms)) (rs : List Resource) (i : ℕ) (r : Resource) → AllRanged (record { lines = lines; resources = rs })
+    → (ranged (get_or rs i no_resource) ≡ true → ranged r ≡ true) → AllRanged (record { lines = lines; resources = set rs i r })
+record_stays lines rs i r fit kept = record {
+  whole = length-set rs i r ∙ fit.whole;
+  terms = fit.terms;
+  records = every_set ranged rs i r (kept (every_at ranged rs i no_resource refl fit.records)) fit.records;
+}
 
-pub line_stays : (lines : List (Option Terms)) (rs : List Resource) (i : ℕ) (o : Option Terms) → length rs ≡ 32 → every terms_ranged lines ≡ true → every ranged rs ≡ true
-    → terms_ranged o ≡ true → record { whole : length rs ≡ 32; terms : every terms_ranged (set lines i o) ≡ true; records : every ranged rs ≡ true }
-line_stays lines rs i o whole terms records fits = record { whole = whole; terms = every_set terms_ranged lines i o fits terms; records = records }
+pub line_stays : (lines : List (Option Terms)) (rs : List Resource) (i : ℕ) (o : Option Terms) → AllRanged (record { lines = lines; resources = rs })
+    → terms_ranged o ≡ true → AllRanged (record { lines = set lines i o; resources = rs })
+line_stays lines rs i o fit fits = record { whole = fit.whole; terms = every_set terms_ranged lines i o fits fit.terms; records = fit.records }

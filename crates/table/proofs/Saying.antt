@@ -37,7 +37,7 @@ use Rattle.ledger.specs.Readings.{slot, line_in, lines, own}
 use Rattle.ledger.proofs.Holdings.{held_from, held_nowhere}
 use Rattle.table.specs.declared.hour.Table.{Table}
 use Rattle.table.specs.Holding.{values_hold, holds}
-use Rattle.table.specs.Ranges.{every, amount_ranged, price_ranged, quantity_ranged, terms_ranged, row_ranged, values_ranged, ranged}
+use Rattle.table.specs.Ranges.{every, amount_ranged, price_ranged, quantity_ranged, terms_ranged, row_ranged, values_ranged, ranged, AllRanged}
 use Rattle.table.specs.Tables.{table_holds, slots_of}
 use Rattle.table.proofs.Empties.{nothing_held}
 use Rattle.table.proofs.Keeping.{every_at, parts}
@@ -143,12 +143,12 @@ there f u n m a b = cond-true _ 0 4 (and_from (ltb f n) (ltb u m) (lt-ltb f n a)
 far : (f u m : ℕ) → 32 ≤ f → ◌≡◌ {A = ℕ} (cond (ltb f 32 && ltb u m) 0 4) 0 → ⊥
 far f u m le z = let h = exists f u 32 m z in omega arith
 
-module _ (t : Table) where
+module _ (t : Table) (fit : AllRanged t) where
   pub lines_said : lines (slots_of t) ≡ lines_of t.lines
   unfolding slots_of
   lines_said = fun_ext (λ c. fun_ext (λ k.
       ap line_in (held_from (table_holds t.lines t.resources) (head 1 (condition_number c) (test_number k)) (there (condition_number c) (test_number k) 5 10 (condition_few c) (test_few k)))
-      ∙ terms_read _ (every_at terms_ranged t.lines (10 * condition_number c + test_number k) None refl t.terms)))
+      ∙ terms_read _ (every_at terms_ranged t.lines (10 * condition_number c + test_number k) None refl fit.terms)))
 
   module _ (i : ℕ) where
     one : Resource
@@ -161,7 +161,7 @@ module _ (t : Table) where
         ⊎_elim
         (λ lt. held_from (table_holds t.lines t.resources) (head k i u) (within lt) ∙ cond-false _ _ _ (ne_eqb k 1 ne))
         (λ le.
-        let whole = t.whole in
+        let whole = fit.whole in
         held_nowhere _ (head k i u) (beyond le) ∙ sym (ap (λ (r : Resource). holds r k u) (get_or_past t.resources i no_resource (omega arith)) ∙ nothing_held k u))
         (cases_lt i 32)
 
@@ -181,7 +181,7 @@ module _ (t : Table) where
     pub own_said : own (slots_of t) i ≡ own_of (get_or t.resources i no_resource)
     unfolding holds one
     own_said =
-        let p = parts one (every_at ranged t.resources i no_resource refl t.records) in
+        let p = parts one (every_at ranged t.resources i no_resource refl fit.records) in
         λ j. record {
           standing = (ap (option_map standing_of) (slot_said 2 0 (λ e. omega arith) (λ lt. there i 0 32 1 lt (omega arith)) (far i 0 1)) ∙ standing_said one.standing) j;
           offer = record {

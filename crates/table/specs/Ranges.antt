@@ -1,5 +1,5 @@
 -- Whether the numbers that a table holds are in their ranges.
-use Rattle.std.specs.Prelude.{ℕ, Bool, true, ◌&&◌, List, [], ◌∷◌, ℤ, pos, Some, None, Option, nat_le}
+use Rattle.std.specs.Prelude.{◌≡◌, ℕ, Bool, true, ◌&&◌, List, [], ◌∷◌, length, ℤ, pos, Some, None, Option, nat_le}
 use Rattle.bounds.specs.Ranges.{in_price_range, in_range}
 use Rattle.curves.specs.declared.row.Row.{Row}
 use Rattle.curves.specs.Rows.{row_steps}
@@ -8,6 +8,7 @@ use Rattle.vocabulary.specs.declared.resource.Values.{Values}
 use Rattle.vocabulary.specs.declared.resource.Resource.{Resource}
 use Rattle.bodies.specs.Bodies.{between}
 use Rattle.bodies.specs.Curves.{all_in_range}
+use Rattle.table.specs.declared.hour.Table.{Table}
 
 abbrev pub every : {A : Type 0} → (A → Bool) → List A → Bool
 every test [] = true
@@ -43,3 +44,9 @@ ranged r =
     && (values_ranged r.reference
     && (every quantity_ranged r.quantities
     && every price_ranged r.prices))
+
+-- every number of a table is in its range, as in every table that calls lead to
+pub record AllRanged (t : Table) : Type 0 where
+  pub whole : length t.resources ≡ 32
+  pub terms : every terms_ranged t.lines ≡ true
+  pub records : every ranged t.resources ≡ true

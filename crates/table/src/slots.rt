@@ -6,6 +6,7 @@ ghost use Rattle.entries.specs.Files.{head_fault, body_fault};
 ghost use Rattle.entries.specs.Table.{kinds};
 ghost use Rattle.ledger.specs.Ledger.{nothing};
 ghost use Rattle.ledger.specs.Slots.{place};
+ghost use Rattle.table.specs.Ranges.{AllRanged};
 ghost use Rattle.table.specs.Tables.{slots_of};
 
 use crate::hour::Table;
@@ -17,7 +18,8 @@ use vocabulary::resource::Resource;
 
 impl Table {
     pub fn empty() -> Table
-        ensures { slots_of result ≡ nothing kinds }
+        ensures slots { slots_of result ≡ nothing kinds }
+        ensures ranged { AllRanged result }
     {
         Table {
             lines: [None; 50],
@@ -28,7 +30,8 @@ impl Table {
     fn take_line(&mut self, condition: u8, test: u8, body: &[u8])
         requires slot { head_fault kinds (head 1 condition test) ≡ 0 }
         requires fault { line_fault test body.now ≡ 0 }
-        ensures { slots_of self.new ≡ slice_set (slots_of self.old) (place kinds (head 1 condition test)) (Some body.now) }
+        ensures slots { slots_of self.new ≡ slice_set (slots_of self.old) (place kinds (head 1 condition test)) (Some body.now) }
+        ensures ranged { AllRanged self.old → AllRanged self.new }
     {
         if let Ok(terms) = read_line(test, body) {
             self.lines[10 * condition as usize + test as usize] = Some(terms);
@@ -38,7 +41,8 @@ impl Table {
     fn take_standing(&mut self, resource: u8, body: &[u8])
         requires slot { head_fault kinds (head 2 resource 0) ≡ 0 }
         requires fault { standing_fault body.now ≡ 0 }
-        ensures { slots_of self.new ≡ slice_set (slots_of self.old) (place kinds (head 2 resource 0)) (Some body.now) }
+        ensures slots { slots_of self.new ≡ slice_set (slots_of self.old) (place kinds (head 2 resource 0)) (Some body.now) }
+        ensures ranged { AllRanged self.old → AllRanged self.new }
     {
         let one = &mut self.resources[resource as usize];
         record::take_standing(one, body);
@@ -47,7 +51,8 @@ impl Table {
     fn take_offer(&mut self, resource: u8, parameter: u8, body: &[u8])
         requires slot { head_fault kinds (head 3 resource parameter) ≡ 0 }
         requires fault { parameter_fault parameter body.now ≡ 0 }
-        ensures { slots_of self.new ≡ slice_set (slots_of self.old) (place kinds (head 3 resource parameter)) (Some body.now) }
+        ensures slots { slots_of self.new ≡ slice_set (slots_of self.old) (place kinds (head 3 resource parameter)) (Some body.now) }
+        ensures ranged { AllRanged self.old → AllRanged self.new }
     {
         let one = &mut self.resources[resource as usize];
         record::take_offer(one, parameter, body);
@@ -56,7 +61,8 @@ impl Table {
     fn take_reference(&mut self, resource: u8, parameter: u8, body: &[u8])
         requires slot { head_fault kinds (head 4 resource parameter) ≡ 0 }
         requires fault { parameter_fault parameter body.now ≡ 0 }
-        ensures { slots_of self.new ≡ slice_set (slots_of self.old) (place kinds (head 4 resource parameter)) (Some body.now) }
+        ensures slots { slots_of self.new ≡ slice_set (slots_of self.old) (place kinds (head 4 resource parameter)) (Some body.now) }
+        ensures ranged { AllRanged self.old → AllRanged self.new }
     {
         let one = &mut self.resources[resource as usize];
         record::take_reference(one, parameter, body);
@@ -65,7 +71,8 @@ impl Table {
     fn take_quantity(&mut self, resource: u8, product: u8, body: &[u8])
         requires slot { head_fault kinds (head 5 resource product) ≡ 0 }
         requires fault { quantity_fault body.now ≡ 0 }
-        ensures { slots_of self.new ≡ slice_set (slots_of self.old) (place kinds (head 5 resource product)) (Some body.now) }
+        ensures slots { slots_of self.new ≡ slice_set (slots_of self.old) (place kinds (head 5 resource product)) (Some body.now) }
+        ensures ranged { AllRanged self.old → AllRanged self.new }
     {
         let one = &mut self.resources[resource as usize];
         record::take_quantity(one, product as usize, body);
@@ -74,7 +81,8 @@ impl Table {
     fn take_price(&mut self, resource: u8, run: u8, body: &[u8])
         requires slot { head_fault kinds (head 6 resource run) ≡ 0 }
         requires fault { price_fault body.now ≡ 0 }
-        ensures { slots_of self.new ≡ slice_set (slots_of self.old) (place kinds (head 6 resource run)) (Some body.now) }
+        ensures slots { slots_of self.new ≡ slice_set (slots_of self.old) (place kinds (head 6 resource run)) (Some body.now) }
+        ensures ranged { AllRanged self.old → AllRanged self.new }
     {
         let one = &mut self.resources[resource as usize];
         record::take_price(one, run as usize, body);
@@ -83,7 +91,8 @@ impl Table {
     fn take_remark(&mut self, resource: u8, body: &[u8])
         requires slot { head_fault kinds (head 7 resource 0) ≡ 0 }
         requires fault { remark_fault body.now ≡ 0 }
-        ensures { slots_of self.new ≡ slice_set (slots_of self.old) (place kinds (head 7 resource 0)) (Some body.now) }
+        ensures slots { slots_of self.new ≡ slice_set (slots_of self.old) (place kinds (head 7 resource 0)) (Some body.now) }
+        ensures ranged { AllRanged self.old → AllRanged self.new }
     {
         let one = &mut self.resources[resource as usize];
         record::take_remark(one, body);
@@ -93,7 +102,8 @@ impl Table {
     pub fn take(&mut self, entry: Entry)
         requires slot { head_fault kinds (raw_of entry).head ≡ 0 }
         requires fault { body_fault kinds (raw_of entry).head (raw_of entry).body ≡ 0 }
-        ensures { slots_of self.new ≡ slice_set (slots_of self.old) (place kinds (raw_of entry.entry).head) (Some (raw_of entry.entry).body) }
+        ensures slots { slots_of self.new ≡ slice_set (slots_of self.old) (place kinds (raw_of entry.entry).head) (Some (raw_of entry.entry).body) }
+        ensures ranged { AllRanged self.old → AllRanged self.new }
     {
         match entry {
             Entry::Line {
@@ -135,6 +145,7 @@ impl Table {
         requires { head_fault kinds (head 1 condition test) ≡ 0 }
         ensures slots { slots_of self.new ≡ slice_set (slots_of self.old) (place kinds (head 1 condition test)) None }
         ensures was { result ≡ is_some (slice_index_or (slots_of self.old) (place kinds (head 1 condition test)) None) }
+        ensures ranged { AllRanged self.old → AllRanged self.new }
     {
         let at = 10 * condition as usize + test as usize;
         let terms = self.lines[at];
@@ -146,6 +157,7 @@ impl Table {
         requires { head_fault kinds (head 2 resource 0) ≡ 0 }
         ensures slots { slots_of self.new ≡ slice_set (slots_of self.old) (place kinds (head 2 resource 0)) None }
         ensures was { result ≡ is_some (slice_index_or (slots_of self.old) (place kinds (head 2 resource 0)) None) }
+        ensures ranged { AllRanged self.old → AllRanged self.new }
     {
         let one = &mut self.resources[resource as usize];
         record::empty_standing(one)
@@ -155,6 +167,7 @@ impl Table {
         requires { head_fault kinds (head 3 resource parameter) ≡ 0 }
         ensures slots { slots_of self.new ≡ slice_set (slots_of self.old) (place kinds (head 3 resource parameter)) None }
         ensures was { result ≡ is_some (slice_index_or (slots_of self.old) (place kinds (head 3 resource parameter)) None) }
+        ensures ranged { AllRanged self.old → AllRanged self.new }
     {
         let one = &mut self.resources[resource as usize];
         record::empty_offer(one, parameter)
@@ -164,6 +177,7 @@ impl Table {
         requires { head_fault kinds (head 4 resource parameter) ≡ 0 }
         ensures slots { slots_of self.new ≡ slice_set (slots_of self.old) (place kinds (head 4 resource parameter)) None }
         ensures was { result ≡ is_some (slice_index_or (slots_of self.old) (place kinds (head 4 resource parameter)) None) }
+        ensures ranged { AllRanged self.old → AllRanged self.new }
     {
         let one = &mut self.resources[resource as usize];
         record::empty_reference(one, parameter)
@@ -173,6 +187,7 @@ impl Table {
         requires { head_fault kinds (head 5 resource product) ≡ 0 }
         ensures slots { slots_of self.new ≡ slice_set (slots_of self.old) (place kinds (head 5 resource product)) None }
         ensures was { result ≡ is_some (slice_index_or (slots_of self.old) (place kinds (head 5 resource product)) None) }
+        ensures ranged { AllRanged self.old → AllRanged self.new }
     {
         let one = &mut self.resources[resource as usize];
         record::empty_quantity(one, product as usize)
@@ -182,6 +197,7 @@ impl Table {
         requires { head_fault kinds (head 6 resource run) ≡ 0 }
         ensures slots { slots_of self.new ≡ slice_set (slots_of self.old) (place kinds (head 6 resource run)) None }
         ensures was { result ≡ is_some (slice_index_or (slots_of self.old) (place kinds (head 6 resource run)) None) }
+        ensures ranged { AllRanged self.old → AllRanged self.new }
     {
         let one = &mut self.resources[resource as usize];
         record::empty_price(one, run as usize)
@@ -191,6 +207,7 @@ impl Table {
         requires { head_fault kinds (head 7 resource 0) ≡ 0 }
         ensures slots { slots_of self.new ≡ slice_set (slots_of self.old) (place kinds (head 7 resource 0)) None }
         ensures was { result ≡ is_some (slice_index_or (slots_of self.old) (place kinds (head 7 resource 0)) None) }
+        ensures ranged { AllRanged self.old → AllRanged self.new }
     {
         let one = &mut self.resources[resource as usize];
         record::empty_remark(one)
@@ -201,6 +218,7 @@ impl Table {
         requires { head_fault kinds (head kind first sub) ≡ 0 }
         ensures slots { slots_of self.new ≡ slice_set (slots_of self.old) (place kinds (head kind first sub)) None }
         ensures was { result ≡ is_some (slice_index_or (slots_of self.old) (place kinds (head kind first sub)) None) }
+        ensures ranged { AllRanged self.old → AllRanged self.new }
     {
         match kind {
             1 => self.empty_line(first, sub),

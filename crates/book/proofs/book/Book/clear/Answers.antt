@@ -18,4 +18,5 @@ returns-else-clear g c =
       answer = r.answer;
       ledger = ap (λ (s : Slots). record { slots = s; open_hour = c.args.self.now.is_open }) (c.clear.ensures.slots ∙ emptied l.slots (place kinds h) (sym c.clear.ensures.was ∙ c.if-clear.false)) ∙ r.stays;
       bounds = refl;
+      ranged = c.clear.ensures.ranged;
     }

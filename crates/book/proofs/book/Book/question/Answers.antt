@@ -9,10 +9,10 @@ use Rattle.book.proofs.Drawing.{answered}
 use Rattle.book.proofs.book.Book.question.Goals as goal
 
 pub returns : goal.returns
-returns g c =
+returns g c fit =
     let m = meant_by g.C.Bound.meaning g.A.Bound.meaning g.I.Bound.meaning g.Q.Bound.meaning c.args.self.now.places in
     let s = slots_of c.args.self.now.table in
-    let is = c.question.ensures ∙ answered m c.args.self.now.table c.args.resource in
+    let is = c.question.ensures ∙ answered m c.args.self.now.table fit c.args.resource in
     record {
       found = λ _. (refl, is);
       without_standing = λ _ none. is ∙ unfound m (lines s) (own s) c.args.resource (ap (option_map standing_of) none);

@@ -1,5 +1,6 @@
 use Rattle.std.proofs.Common.{◌≤◌, length, subst}
 use Rattle.charges.specs.Findings.{meant_by}
+use Rattle.table.specs.Ranges.{AllRanged}
 use Rattle.book.proofs.Drawing.{redrawn, lines_drawn}
 use Rattle.book.proofs.book.Book.write_listing.Goals as goal
 
@@ -9,8 +10,8 @@ write_listing-requires g c = c.listed-answers.ensures.small
 pub returns : goal.returns
 returns g c =
     let m = meant_by g.C.Bound.meaning g.A.Bound.meaning g.I.Bound.meaning g.Q.Bound.meaning c.args.self.now.places in
-    let drawn = lines_drawn m c.args.self.now.table _ c.listed-answers.ensures.value in
+    let drawn = λ (fit : AllRanged c.args.self.now.table). lines_drawn m c.args.self.now.table fit _ c.listed-answers.ensures.value in
     record {
-      written = redrawn drawn c.write_listing.ensures.written;
-      short = subst (λ file. length file ≤ 1696) drawn c.write_listing.ensures.short;
+      written = λ fit. redrawn (drawn fit) c.write_listing.ensures.written;
+      short = λ fit. subst (λ file. length file ≤ 1696) (drawn fit) c.write_listing.ensures.short;
     }

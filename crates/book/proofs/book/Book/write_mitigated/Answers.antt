@@ -1,7 +1,19 @@
-use Rattle.ledger.specs.Mitigation.{mitigated}
+use Rattle.std.proofs.Common.{ap}
+use Rattle.charges.specs.Findings.{meant_by}
+use Rattle.entries.specs.Table.{kinds}
+use Rattle.ledger.specs.Mitigation.{mitigated, mitigated_held}
+use Rattle.ledger.specs.Slots.{entry_file}
+use Rattle.ledger.proofs.Holdings.{same_slots}
+use Rattle.table.specs.Tables.{slots_of}
 use Rattle.files.specs.Placing.{file_of}
+use Rattle.offers.specs.Rows.{mitigated_rows}
+use Rattle.offers.proofs.Offering.{rows_said}
+use Rattle.book.proofs.Drawing.{redrawn}
 use Rattle.book.proofs.book.Book.write_mitigated.Goals as goal
 
 pub returns : goal.returns
 unfolding file_of mitigated
-returns g c = c.write_file.ensures
+returns g c fit =
+    let m = meant_by g.C.Bound.meaning g.A.Bound.meaning g.I.Bound.meaning g.Q.Bound.meaning c.args.self.now.places in
+    let t = c.args.self.now.table in
+    redrawn (ap (entry_file kinds) (same_slots (mitigated_rows m t) (mitigated_held m (slots_of t)) (rows_said m t fit))) c.write_file.ensures

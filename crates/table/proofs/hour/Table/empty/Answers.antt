@@ -7,9 +7,9 @@ use Rattle.table.proofs.Empties.{table_empty}
 use Rattle.table.proofs.Keeping.{every_same, empty_ranged}
 use Rattle.table.proofs.hour.Table.empty.Goals as goal
 
-pub returns : goal.returns
+pub returns-clause-slots : goal.returns-clause-slots
 unfolding slots_of
-returns c = ap (λ (r : Resource). slots_from (table_holds (replicate 50 None) (replicate 32 r))) c.empty.ensures ∙ table_empty
+returns-clause-slots c = ap (λ (r : Resource). slots_from (table_holds (replicate 50 None) (replicate 32 r))) c.empty.ensures ∙ table_empty
 
-pub invariant_of-result : goal.invariant_of-result
-invariant_of-result c = record { whole = refl; terms = every_same terms_ranged 50 None refl; records = every_same ranged 32 c.empty.result (ap ranged c.empty.ensures ∙ empty_ranged) }
+pub returns-clause-ranged : goal.returns-clause-ranged
+returns-clause-ranged c = record { whole = refl; terms = every_same terms_ranged 50 None refl; records = every_same ranged 32 c.empty.result (ap ranged c.empty.ensures ∙ empty_ranged) }

@@ -14,7 +14,5 @@ returns c =
     record {
       slots = line_written t.lines t.resources c.args.condition c.args.test None _ (omega arith) c.requires refl;
       was = c.is_some.ensures ∙ some_mapped terms_bytes _ ∙ ap is_some (sym (line_read t.lines t.resources c.args.condition c.args.test c.requires));
+      ranged = λ fit. line_stays t.lines t.resources _ None fit refl;
     }
-
-pub invariant_of-self : goal.invariant_of-self
-invariant_of-self c = let t = c.args.self.now in line_stays t.lines t.resources _ None t.whole t.terms t.records refl

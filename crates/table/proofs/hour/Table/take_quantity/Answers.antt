@@ -4,11 +4,11 @@ use Rattle.table.proofs.Tables.{exists, record_written}
 use Rattle.table.proofs.Keeping.{record_stays}
 use Rattle.table.proofs.hour.Table.take_quantity.Goals as goal
 
-pub returns : goal.returns
+pub returns-clause-slots : goal.returns-clause-slots
 unfolding slots_of
-returns c =
+returns-clause-slots c =
     let there = exists c.args.resource c.args.product 32 4 c.requires.slot in
     record_written c.args.self.now.lines c.args.self.now.resources c.args.resource _ 5 c.args.product _ (λ e. omega arith) (omega arith) c.requires.slot c.take_quantity.ensures
 
-pub invariant_of-self : goal.invariant_of-self
-invariant_of-self c = let t = c.args.self.now in record_stays t.lines t.resources c.args.resource _ t.whole t.terms t.records c.take_quantity.ensures.kept
+pub returns-clause-ranged : goal.returns-clause-ranged
+returns-clause-ranged c fit = record_stays _ _ c.args.resource _ fit c.take_quantity.ensures.kept
