@@ -3,6 +3,7 @@ ghost use Rattle.std.specs.Prelude.{◌≡◌, IfOk, Err, string_bytes};
 ghost use Rattle.charges.specs.Findings.{meant_by};
 ghost use Rattle.entries.specs.Files.{told};
 ghost use Rattle.ledger.specs.Listing.{listing as listing_of};
+ghost use Rattle.table.specs.Ranges.{AllRanged};
 ghost use Rattle.table.specs.Tables.{slots_of};
 ghost use Rattle.answering.specs.Texts.{refused as refused_of};
 
@@ -25,6 +26,7 @@ pub(crate) fn listing<C: BoundBelow, A: BoundBelow, I: BoundBelow, Q: BoundAbove
     heap: Global,
     book: &Book<C, A, I, Q>,
 ) -> Result<Vec<u8>, AllocError>
+    requires { AllRanged book.now.table }
     ensures { IfOk result (λ v. v.items ≡ listing_of (meant_by C.Bound.meaning A.Bound.meaning I.Bound.meaning Q.Bound.meaning book.now.places) (slots_of book.now.table)) }
 {
     let mut bytes = [0; 1696];

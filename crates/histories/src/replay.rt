@@ -2,6 +2,7 @@
 ghost use Rattle.std.specs.Prelude.{◌≡◌};
 ghost use Rattle.entries.specs.Table.{kinds};
 ghost use Rattle.ledger.specs.Ledger.{step, ledger};
+ghost use Rattle.table.specs.Ranges.{AllRanged};
 ghost use Rattle.book.specs.Ledgers.{ledger_of};
 ghost use Rattle.histories.specs.Acts.{act_of, acts_of};
 
@@ -16,6 +17,7 @@ fn obey<C: BoundBelow, A: BoundBelow, I: BoundBelow, Q: BoundAbove>(
 )
     ensures ledger { ledger_of book.new.table book.new.is_open ≡ step kinds (ledger_of book.old.table book.old.is_open) (act_of call.entry) }
     ensures bounds { book.new.places ≡ book.old.places }
+    ensures ranged { AllRanged book.old.table → AllRanged book.new.table }
 {
     let _ = match call {
         Call::Post(bytes) => book.post(bytes),
@@ -32,6 +34,7 @@ pub fn replay<C: BoundBelow, A: BoundBelow, I: BoundBelow, Q: BoundAbove>(
 ) -> Book<C, A, I, Q>
     ensures ledger { ledger_of result.table result.is_open ≡ ledger kinds (acts_of calls.now) }
     ensures bounds { result.places ≡ places }
+    ensures ranged { AllRanged result.table }
 {
     let mut book = Book::open(places);
     for call in calls {
