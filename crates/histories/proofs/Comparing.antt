@@ -18,10 +18,10 @@ use Rattle.ledger.proofs.Mitigating.{mitigates}
 use Rattle.table.specs.declared.hour.Table.{Table}
 use Rattle.table.specs.Tables.{slots_of}
 use Rattle.book.specs.Ledgers.{ledger_of}
-use Rattle.histories.specs.declared.drawn.Files.{Files}
+use Rattle.histories.specs.declared.file.File.{File}
 use Rattle.histories.specs.declared.compare.Comparison.{Comparison}
 use Rattle.histories.specs.Documents.{bytes_of, DrawnFrom}
-use Rattle.histories.specs.Histories.{slots_after, OffersMitigated, Compared}
+use Rattle.histories.specs.Histories.{slots_after, OffersMitigated, Compared, ComparedWhole}
 
 accepted : (r : Result Unit Refusal) → told r ≡ no_fault → is_ok r ≡ true
 accepted (Ok _) e = refl
@@ -35,12 +35,9 @@ module _ (t : Table) (is_open : Bool) (calls : List Act) (is : ledger_of t is_op
   pub well : WellFormed kinds (slots_of t)
   well = subst (WellFormed kinds) (sym slots_are) (reached calls)
 
-  pub files_are : (m k : Meanings) → k ≡ m → (f : Files) → DrawnFrom k (slots_of t) f → DrawnFrom m (slots_after calls) f
-  files_are m k e f d = record {
-    entries = d.entries ∙ ap (entry_file kinds) slots_are;
-    mitigated = d.mitigated ∙ (λ j. mitigated_file (e j) (slots_are j));
-    listing = d.listing ∙ (λ j. listing (e j) (slots_are j));
-  }
+  pub files_are : (m k : Meanings) → k ≡ m → (entries mitigated listing : File) → DrawnFrom k (slots_of t) entries mitigated listing → DrawnFrom m (slots_after calls) entries mitigated listing
+  files_are m k e entries mitigated listing d =
+      subst (λ s. DrawnFrom m s entries mitigated listing) slots_are (subst (λ (x : Meanings). DrawnFrom x (slots_of t) entries mitigated listing) e d)
 
 -- a file of well-formed slots, loaded into a new book
 module _ (s : Slots) (fits : WellFormed kinds s) (bytes : List ℕ) (l : Ledger) (are : bytes ≡ entry_file kinds s) (new : l ≡ empty kinds) where
@@ -66,30 +63,34 @@ module _ (m : Meanings) (lawful : Lawful m) (calls : List Act) where
   pub stays : (k : Meanings) → k ≡ m → (t : Slots) → t ≡ mitigated m (slots_after calls) → mitigated_file k t ≡ mitigated_file m (slots_after calls)
   stays k e t is = (λ j. mitigated_file (e j) (is j)) ∙ ap (entry_file kinds) (mitigates m lawful (slots_after calls) (reached calls)).again
 
--- the promise, from the files and the answers of the third book
-module _ (m n : Meanings) (lawful-m : Lawful m) (lawful-n : Lawful n) (first second : List Act) (r : Comparison)
-    (a : DrawnFrom m (slots_after first) r.first) (b : DrawnFrom n (slots_after second) r.second)
-    (d : Decides r.alike (bytes_of r.first.entries ≡ bytes_of r.second.entries))
-    (took : r.taken ≡ true) (stayed : bytes_of r.again ≡ mitigated_file m (slots_after first)) where
-  pub compared : Compared m n first second r
-  compared =
-      let to : bytes_of r.first.entries ≡ bytes_of r.second.entries → slots_after first ≡ slots_after second = λ e. injective first second (sym a.entries ∙ e ∙ b.entries) in
-      let back : slots_after first ≡ slots_after second → bytes_of r.first.entries ≡ bytes_of r.second.entries = λ e. a.entries ∙ ap (entry_file kinds) e ∙ sym b.entries in
+-- the promises, from the files and the answers of the third book
+module _ (m n : Meanings) (first second : List Act) (r : Comparison)
+    (a : DrawnFrom m (slots_after first) r.first r.first_mitigated r.first_listing) (b : DrawnFrom n (slots_after second) r.second r.second_mitigated r.second_listing) where
+  pub compared : Decides r.alike (bytes_of r.first ≡ bytes_of r.second) → Compared first second r
+  compared d =
+      let left = a.entry_file_drawn.same in
+      let right = b.entry_file_drawn.same in
+      let to : bytes_of r.first ≡ bytes_of r.second → slots_after first ≡ slots_after second = λ e. injective first second (sym left ∙ e ∙ right) in
+      let back : slots_after first ≡ slots_after second → bytes_of r.first ≡ bytes_of r.second = λ e. left ∙ ap (entry_file kinds) e ∙ sym right in
       record {
-        first_files = a;
-        second_files = b;
-        first_entry_file = a.entries;
-        second_entry_file = b.entries;
+        first_entry_file = left;
+        second_entry_file = right;
         equal_files_equal_slots = to;
         equal_slots_equal_files = back;
         alike_says_which = Decides-like r.alike to back d;
-        agreeing_bounds_equal_listings = λ agree e. a.listing ∙ (λ j. listing (same m n agree j) (e j)) ∙ sym b.listing;
-        agreeing_bounds_equal_mitigated = λ agree e. a.mitigated ∙ (λ j. mitigated_file (same m n agree j) (e j)) ∙ sym b.mitigated;
-        one_more_call_leaves_neighbours = λ act resource other is agree for ne before after.
-            (λ j. listing_line (sym (same m n agree) j) (slots_after (is j)) other)
-            ∙ neighbours_lines m first act resource other for ne before (subst (λ acts. ShareNone (slots_after acts) resource other) is after);
-        first_offers = offers m lawful-m first;
-        second_offers = offers n lawful-n second;
-        mitigated_file_is_taken = took;
-        mitigated_file_stays = stayed ∙ sym a.mitigated;
       }
+
+  pub whole : Lawful m → Lawful n → r.taken ≡ true → bytes_of r.again ≡ mitigated_file m (slots_after first) → ComparedWhole m n first second r
+  whole lawful-m lawful-n took stayed = record {
+    first_files = a;
+    second_files = b;
+    agreeing_bounds_equal_listings = λ agree e. a.listing_drawn.same ∙ (λ j. listing (same m n agree j) (e j)) ∙ sym b.listing_drawn.same;
+    agreeing_bounds_equal_mitigated = λ agree e. a.mitigated_file_drawn.same ∙ (λ j. mitigated_file (same m n agree j) (e j)) ∙ sym b.mitigated_file_drawn.same;
+    one_more_call_leaves_neighbours = λ act resource other is agree for ne before after.
+        (λ j. listing_line (sym (same m n agree) j) (slots_after (is j)) other)
+        ∙ neighbours_lines m first act resource other for ne before (subst (λ acts. ShareNone (slots_after acts) resource other) is after);
+    first_offers = offers m lawful-m first;
+    second_offers = offers n lawful-n second;
+    mitigated_file_is_taken = took;
+    mitigated_file_stays = stayed ∙ sym a.mitigated_file_drawn.same;
+  }

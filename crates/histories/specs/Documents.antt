@@ -7,7 +7,6 @@ use Rattle.ledger.specs.Mitigation.{mitigated_file}
 use Rattle.ledger.specs.Listing.{listing}
 use Rattle.histories.specs.declared.document.Document.{Document}
 use Rattle.histories.specs.declared.document.Document.TheVariants.{Entries, Mitigated, Listing}
-use Rattle.histories.specs.declared.drawn.Files.{Files}
 use Rattle.histories.specs.declared.file.File.{File}
 
 abbrev pub bytes_of : File → List ℕ
@@ -22,7 +21,7 @@ drawn Entries m s = entry_file kinds s
 drawn Mitigated m s = mitigated_file m s
 drawn Listing m s = listing m s
 
-pub record DrawnFrom (m : Meanings) (s : Slots) (f : Files) : Type 0 where
-  pub entries : bytes_of f.entries ≡ drawn Entries m s
-  pub mitigated : bytes_of f.mitigated ≡ drawn Mitigated m s
-  pub listing : bytes_of f.listing ≡ drawn Listing m s
+pub record DrawnFrom (m : Meanings) (s : Slots) (entries mitigated listing : File) : Type 0 where
+  pub entry_file_drawn : Holds (drawn Entries m s) entries
+  pub mitigated_file_drawn : Holds (drawn Mitigated m s) mitigated
+  pub listing_drawn : Holds (drawn Listing m s) listing

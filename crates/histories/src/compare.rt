@@ -2,7 +2,7 @@
 ghost use Rattle.std.specs.Prelude.{◌≡◌};
 ghost use Rattle.charges.specs.Findings.{meant_by};
 ghost use Rattle.histories.specs.Acts.{acts_of};
-ghost use Rattle.histories.specs.Histories.{Compared};
+ghost use Rattle.histories.specs.Histories.{Compared, ComparedWhole};
 
 pub use crate::again::{Rewritten, write_again};
 use crate::call::Call;
@@ -14,13 +14,17 @@ use book::book::Book;
 use bounds::bound::{BoundAbove, BoundBelow};
 use verdicts::places::Places;
 
-// The files of two books, whether the two hours hold the same, whether a third new book takes the first's
-// mitigated file, and the mitigated file of that book.
+// The entry files of two books, and whether the two hours hold the same; the books' other files, whether a third
+// new book takes the first's mitigated file, and the mitigated file of that book.
 #[derive(Clone, Copy)]
 pub struct Comparison {
-    pub first: Files,
-    pub second: Files,
+    pub first: File,
+    pub second: File,
     pub alike: bool,
+    pub first_mitigated: File,
+    pub first_listing: File,
+    pub second_mitigated: File,
+    pub second_listing: File,
     pub taken: bool,
     pub again: File,
 }
@@ -42,19 +46,27 @@ pub fn compare<
     second_places: Places<D, B, J, R>,
     second: &[Call],
 ) -> Comparison
-    ensures { Compared (meant_by C.Bound.meaning A.Bound.meaning I.Bound.meaning Q.Bound.meaning first_places) (meant_by D.Bound.meaning B.Bound.meaning J.Bound.meaning R.Bound.meaning second_places) (acts_of first.now) (acts_of second.now) result }
+    ensures compared { Compared (acts_of first.now) (acts_of second.now) result }
+    ensures whole { ComparedWhole (meant_by C.Bound.meaning A.Bound.meaning I.Bound.meaning Q.Bound.meaning first_places) (meant_by D.Bound.meaning B.Bound.meaning J.Bound.meaning R.Bound.meaning second_places) (acts_of first.now) (acts_of second.now) result }
 {
     let one = replay(first_places, first);
     let two = replay(second_places, second);
-    let left = Files::of(&one);
-    let right = Files::of(&two);
+    let of_first = Files::of(&one);
+    let of_second = Files::of(&two);
+    let left = of_first.entries;
+    let right = of_second.entries;
+    let alike = same_bytes(&left, &right);
     let Book { places, .. } = one;
     let mut new = Book::open(places);
-    let taken = new.load(left.mitigated.part()).is_ok();
+    let taken = new.load(of_first.mitigated.part()).is_ok();
     Comparison {
-        alike: same_bytes(&left.entries, &right.entries),
         first: left,
         second: right,
+        alike,
+        first_mitigated: of_first.mitigated,
+        first_listing: of_first.listing,
+        second_mitigated: of_second.mitigated,
+        second_listing: of_second.listing,
         taken,
         again: file(&new, Document::Mitigated),
     }

@@ -13,14 +13,6 @@ use bodies::fault::Refusal;
 use book::book::Book;
 use bounds::bound::{BoundAbove, BoundBelow};
 
-impl File {
-    pub fn part(&self) -> &[u8]
-        ensures { result.now ≡ bytes_of self.now }
-    {
-        &self.bytes[0..self.length]
-    }
-}
-
 // The three files of one book.
 #[derive(Clone, Copy)]
 pub struct Files {
@@ -52,13 +44,16 @@ pub fn file<C: BoundBelow, A: BoundBelow, I: BoundBelow, Q: BoundAbove>(
     document: Document,
 ) -> File
     requires { WellFormed kinds (slots_of book.now.table) }
-    ensures { bytes_of result ≡ drawn_of document (meant_by C.Bound.meaning A.Bound.meaning I.Bound.meaning Q.Bound.meaning book.now.places) (slots_of book.now.table) }
+    ensures { Holds (drawn_of document (meant_by C.Bound.meaning A.Bound.meaning I.Bound.meaning Q.Bound.meaning book.now.places) (slots_of book.now.table)) result }
 {
-    let mut bytes = [0; 31_319];
-    match write_document(book, document, &mut bytes) {
-        Ok(length) => File { bytes, length },
-        Err(_) => File { bytes, length: 0 },
+    let mut drawn = File {
+        bytes: [0; 31_319],
+        length: 0,
+    };
+    if let Ok(length) = write_document(book, document, &mut drawn.bytes) {
+        drawn.length = length;
     }
+    drawn
 }
 
 // The entry file of a book that some list of calls leads to.
@@ -68,7 +63,11 @@ pub fn entry_file<C: BoundBelow, A: BoundBelow, I: BoundBelow, Q: BoundAbove>(
     requires { WellFormed kinds (slots_of book.now.table) }
     ensures { Holds (entry_file_of kinds (slots_of book.now.table)) result }
 {
-    file(book, Document::Entries)
+    let mut bytes = [0; 31_319];
+    match book.write_entries(&mut bytes, 0) {
+        Ok(length) => File { bytes, length },
+        Err(_) => File { bytes, length: 0 },
+    }
 }
 
 pub fn same_bytes(one: &File, other: &File) -> bool
@@ -83,7 +82,7 @@ impl Files {
         book: &Book<C, A, I, Q>,
     ) -> Files
         requires { WellFormed kinds (slots_of book.now.table) }
-        ensures { DrawnFrom (meant_by C.Bound.meaning A.Bound.meaning I.Bound.meaning Q.Bound.meaning book.now.places) (slots_of book.now.table) result }
+        ensures { DrawnFrom (meant_by C.Bound.meaning A.Bound.meaning I.Bound.meaning Q.Bound.meaning book.now.places) (slots_of book.now.table) result.entries result.mitigated result.listing }
     {
         Files {
             entries: entry_file(book),

@@ -5,15 +5,15 @@ use Rattle.ledger.specs.Mitigation.{mitigated}
 use Rattle.ledger.specs.Slots.{WellFormed}
 use Rattle.histories.specs.Acts.{acts_of}
 use Rattle.histories.specs.Histories.{slots_after}
-use Rattle.histories.proofs.Comparing.{well, files_are, reloaded, taken, mitigated_fits, stays, compared}
+use Rattle.histories.proofs.Comparing.{well, files_are, reloaded, taken, mitigated_fits, stays, compared, whole}
 use Rattle.histories.proofs.Laws.{lawful}
 use Rattle.histories.proofs.compare.compare.Goals as goal
 
-pub of-left-requires : goal.of-left-requires
-of-left-requires g c = well _ _ (acts_of c.args.first.now) c.replay-one.ensures.ledger
+pub of-of_first-requires : goal.of-of_first-requires
+of-of_first-requires g c = well _ _ (acts_of c.args.first.now) c.replay-one.ensures.ledger
 
-pub of-right-requires : goal.of-right-requires
-of-right-requires g c = well _ _ (acts_of c.args.second.now) c.replay-two.ensures.ledger
+pub of-of_second-requires : goal.of-of_second-requires
+of-of_second-requires g c = well _ _ (acts_of c.args.second.now) c.replay-two.ensures.ledger
 
 pub file-requires : goal.file-requires
 file-requires g c =
@@ -21,9 +21,9 @@ file-requires g c =
     let m = meant c.args.first_places in
     let keeps = lawful g.C.Bound.meaning g.A.Bound.meaning g.I.Bound.meaning g.Q.Bound.meaning g.C.Bound.harmless g.A.Bound.harmless g.Q.Bound.harmless g.met.C.Bound.spares g.met.A.Bound.spares g.met.Q.Bound.spares c.args.first_places in
     let first = acts_of c.args.first.now in
-    let left = files_are _ _ first c.replay-one.ensures.ledger m _ (ap meant c.replay-one.ensures.bounds) c.of-left.result c.of-left.ensures in
+    let left = files_are _ _ first c.replay-one.ensures.ledger m _ (ap meant c.replay-one.ensures.bounds) _ _ _ c.of-of_first.ensures in
     let fits = mitigated_fits m keeps first in
-    subst (WellFormed kinds) (sym (reloaded (mitigated m (slots_after first)) fits _ _ (c.part.ensures ∙ left.mitigated) c.open-new.ensures.ledger _ c.load.ensures.ledger)) fits
+    subst (WellFormed kinds) (sym (reloaded (mitigated m (slots_after first)) fits _ _ (c.part.ensures ∙ left.mitigated_file_drawn.same) c.open-new.ensures.ledger _ c.load.ensures.ledger)) fits
 
 pub returns : goal.returns
 returns g c =
@@ -35,12 +35,15 @@ returns g c =
     let keeps-second = lawful g.D.Bound.meaning g.B.Bound.meaning g.J.Bound.meaning g.R.Bound.meaning g.D.Bound.harmless g.B.Bound.harmless g.R.Bound.harmless g.met.D.Bound.spares g.met.B.Bound.spares g.met.R.Bound.spares c.args.second_places in
     let first = acts_of c.args.first.now in
     let second = acts_of c.args.second.now in
-    let left = files_are _ _ first c.replay-one.ensures.ledger m _ (ap meant c.replay-one.ensures.bounds) c.of-left.result c.of-left.ensures in
-    let right = files_are _ _ second c.replay-two.ensures.ledger n _ (ap meant-second c.replay-two.ensures.bounds) c.of-right.result c.of-right.ensures in
+    let left = files_are _ _ first c.replay-one.ensures.ledger m _ (ap meant c.replay-one.ensures.bounds) _ _ _ c.of-of_first.ensures in
+    let right = files_are _ _ second c.replay-two.ensures.ledger n _ (ap meant-second c.replay-two.ensures.bounds) _ _ _ c.of-of_second.ensures in
     let fits = mitigated_fits m keeps first in
     let s = mitigated m (slots_after first) in
-    let are = c.part.ensures ∙ left.mitigated in
+    let are = c.part.ensures ∙ left.mitigated_file_drawn.same in
     let held = reloaded s fits _ _ are c.open-new.ensures.ledger _ c.load.ensures.ledger in
-    compared m n keeps keeps-second first second _ left right c.same_bytes.ensures
-    (c.is_ok-taken.ensures.value ∙ taken s fits _ _ are c.open-new.ensures.ledger _ c.load.ensures.answer)
-    (c.file.ensures ∙ stays m keeps first _ (ap meant (c.load.ensures.bounds ∙ c.open-new.ensures.bounds ∙ c.replay-one.ensures.bounds)) _ held)
+    record {
+      compared = compared m n first second _ left right c.same_bytes-alike.ensures;
+      whole = whole m n first second _ left right keeps keeps-second
+          (c.is_ok-taken.ensures.value ∙ taken s fits _ _ are c.open-new.ensures.ledger _ c.load.ensures.answer)
+          (c.file.ensures.same ∙ stays m keeps first _ (ap meant (c.load.ensures.bounds ∙ c.open-new.ensures.bounds ∙ c.replay-one.ensures.bounds)) _ held);
+    }

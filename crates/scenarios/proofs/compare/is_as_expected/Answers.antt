@@ -5,5 +5,5 @@ use Rattle.scenarios.proofs.compare.is_as_expected.Goals as goal
 
 pub returns : goal.returns
 returns g c =
-    let is = c.part.ensures ∙ c.file.ensures in
+    let is = c.part.ensures ∙ c.file.ensures.same in
     Decides-like c.eq.result (λ e. sym is ∙ e) (λ e. is ∙ e) (slice_eq-Decides Decides-eqb _ _ _ c.eq.ensures)
