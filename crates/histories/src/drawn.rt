@@ -3,6 +3,7 @@ ghost use Rattle.std.specs.Prelude.{◌≡◌, ◌≤◌, length, Decides};
 ghost use Rattle.charges.specs.Findings.{meant_by};
 ghost use Rattle.entries.specs.Table.{kinds};
 ghost use Rattle.ledger.specs.Slots.{WellFormed, entry_file as entry_file_of};
+ghost use Rattle.table.specs.Ranges.{AllRanged};
 ghost use Rattle.table.specs.Tables.{slots_of};
 ghost use Rattle.files.specs.Placing.{Written};
 ghost use Rattle.histories.specs.Documents.{bytes_of, drawn as drawn_of, Holds, DrawnFrom};
@@ -27,7 +28,8 @@ fn write_document<C: BoundBelow, A: BoundBelow, I: BoundBelow, Q: BoundAbove>(
     document: Document,
     out: &mut [u8],
 ) -> Result<usize, Refusal>
-    requires { WellFormed kinds (slots_of book.now.table) }
+    requires well { WellFormed kinds (slots_of book.now.table) }
+    requires ranged { AllRanged book.now.table }
     ensures written { Written 0 (drawn_of document (meant_by C.Bound.meaning A.Bound.meaning I.Bound.meaning Q.Bound.meaning book.now.places) (slots_of book.now.table)) out.old out.new result }
     ensures most { length (drawn_of document (meant_by C.Bound.meaning A.Bound.meaning I.Bound.meaning Q.Bound.meaning book.now.places) (slots_of book.now.table)) ≤ 31319 }
 {
@@ -43,7 +45,8 @@ pub fn file<C: BoundBelow, A: BoundBelow, I: BoundBelow, Q: BoundAbove>(
     book: &Book<C, A, I, Q>,
     document: Document,
 ) -> File
-    requires { WellFormed kinds (slots_of book.now.table) }
+    requires well { WellFormed kinds (slots_of book.now.table) }
+    requires ranged { AllRanged book.now.table }
     ensures { Holds (drawn_of document (meant_by C.Bound.meaning A.Bound.meaning I.Bound.meaning Q.Bound.meaning book.now.places) (slots_of book.now.table)) result }
 {
     let mut drawn = File {
@@ -81,7 +84,8 @@ impl Files {
     pub fn of<C: BoundBelow, A: BoundBelow, I: BoundBelow, Q: BoundAbove>(
         book: &Book<C, A, I, Q>,
     ) -> Files
-        requires { WellFormed kinds (slots_of book.now.table) }
+        requires well { WellFormed kinds (slots_of book.now.table) }
+        requires ranged { AllRanged book.now.table }
         ensures { DrawnFrom (meant_by C.Bound.meaning A.Bound.meaning I.Bound.meaning Q.Bound.meaning book.now.places) (slots_of book.now.table) result.entries result.mitigated result.listing }
     {
         Files {

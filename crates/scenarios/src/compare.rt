@@ -3,6 +3,7 @@ ghost use Rattle.std.specs.Prelude.{◌≡◌, Decides};
 ghost use Rattle.charges.specs.Findings.{meant_by};
 ghost use Rattle.entries.specs.Table.{kinds};
 ghost use Rattle.ledger.specs.Slots.{WellFormed};
+ghost use Rattle.table.specs.Ranges.{AllRanged};
 ghost use Rattle.table.specs.Tables.{slots_of};
 ghost use Rattle.histories.specs.Documents.{drawn as drawn_of};
 ghost use Rattle.scenarios.specs.Agreement.{FirstDifference, Compared};
@@ -28,7 +29,8 @@ fn is_as_expected<C: BoundBelow, A: BoundBelow, I: BoundBelow, Q: BoundAbove>(
     document: Document,
     expected: &[u8],
 ) -> bool
-    requires { WellFormed kinds (slots_of book.now.table) }
+    requires well { WellFormed kinds (slots_of book.now.table) }
+    requires ranged { AllRanged book.now.table }
     ensures { Decides result (drawn_of document (meant_by C.Bound.meaning A.Bound.meaning I.Bound.meaning Q.Bound.meaning book.now.places) (slots_of book.now.table) ≡ expected.now) }
 {
     file(book, document).part() == expected
@@ -38,7 +40,8 @@ fn first_difference<C: BoundBelow, A: BoundBelow, I: BoundBelow, Q: BoundAbove>(
     book: &Book<C, A, I, Q>,
     expected: &Expected,
 ) -> Option<Document>
-    requires { WellFormed kinds (slots_of book.now.table) }
+    requires well { WellFormed kinds (slots_of book.now.table) }
+    requires ranged { AllRanged book.now.table }
     ensures { FirstDifference (meant_by C.Bound.meaning A.Bound.meaning I.Bound.meaning Q.Bound.meaning book.now.places) (slots_of book.now.table) expected.now result }
 {
     if !is_as_expected(book, Document::Entries, expected.entries) {

@@ -3,6 +3,7 @@ ghost use Rattle.std.specs.Prelude.{◌≡◌, IfOk, string_bytes, OnOk};
 ghost use Rattle.charges.specs.Findings.{meant_by};
 ghost use Rattle.entries.specs.Table.{kinds};
 ghost use Rattle.ledger.specs.Slots.{WellFormed};
+ghost use Rattle.table.specs.Ranges.{AllRanged};
 ghost use Rattle.table.specs.Tables.{slots_of};
 ghost use Rattle.book.specs.Ledgers.{ledger_of};
 ghost use Rattle.histories.specs.Documents.{drawn as drawn_of};
@@ -36,6 +37,7 @@ fn found<C: BoundBelow, A: BoundBelow, I: BoundBelow, Q: BoundAbove>(
     book: &Book<C, A, I, Q>,
     resource: u8,
 ) -> Result<String, AllocError>
+    requires { AllRanged book.now.table }
     ensures { IfOk result (λ s. string_bytes s ≡ found_text (meant_by C.Bound.meaning A.Bound.meaning I.Bound.meaning Q.Bound.meaning book.now.places) (slots_of book.now.table) resource) }
 {
     let mut answer = Answer {
@@ -58,7 +60,8 @@ fn drawn<C: BoundBelow, A: BoundBelow, I: BoundBelow, Q: BoundAbove>(
     book: &Book<C, A, I, Q>,
     document: Document,
 ) -> Result<String, AllocError>
-    requires { WellFormed kinds (slots_of book.now.table) }
+    requires well { WellFormed kinds (slots_of book.now.table) }
+    requires ranged { AllRanged book.now.table }
     ensures { IfOk result (λ s. string_bytes s ≡ hex_line_of (drawn_of document (meant_by C.Bound.meaning A.Bound.meaning I.Bound.meaning Q.Bound.meaning book.now.places) (slots_of book.now.table))) }
 {
     hex_line(heap, file(book, document).part())
@@ -70,10 +73,12 @@ pub fn obey<C: BoundBelow, A: BoundBelow, I: BoundBelow, Q: BoundAbove>(
     book: &mut Book<C, A, I, Q>,
     command: Command,
 ) -> Result<String, AllocError>
-    requires { WellFormed kinds (slots_of book.old.table) }
+    requires well { WellFormed kinds (slots_of book.old.table) }
+    requires ranged { AllRanged book.old.table }
     ensures text { IfOk result (λ s. string_bytes s ≡ reply (meant_by C.Bound.meaning A.Bound.meaning I.Bound.meaning Q.Bound.meaning book.old.places) (ledger_of book.old.table book.old.is_open) (order_of command.entry)) }
     ensures ledger { OnOk result (ledger_of book.new.table book.new.is_open ≡ after (ledger_of book.old.table book.old.is_open) (order_of command.entry)) }
     ensures bounds { book.new.places ≡ book.old.places }
+    ensures ranged { AllRanged book.new.table }
 {
     match command {
         Command::Post(hex) => {
@@ -100,10 +105,12 @@ pub(crate) fn obey_line<C: BoundBelow, A: BoundBelow, I: BoundBelow, Q: BoundAbo
     line: &[u8],
     number: usize,
 ) -> Result<String, AllocError>
-    requires { WellFormed kinds (slots_of book.old.table) }
+    requires well { WellFormed kinds (slots_of book.old.table) }
+    requires ranged { AllRanged book.old.table }
     ensures text { IfOk result (λ s. string_bytes s ≡ reply_line (meant_by C.Bound.meaning A.Bound.meaning I.Bound.meaning Q.Bound.meaning book.old.places) (ledger_of book.old.table book.old.is_open) number (command_of line.now)) }
     ensures ledger { OnOk result (ledger_of book.new.table book.new.is_open ≡ after_line (ledger_of book.old.table book.old.is_open) (command_of line.now)) }
     ensures bounds { book.new.places ≡ book.old.places }
+    ensures ranged { AllRanged book.new.table }
 {
     match read_command(line) {
         Some(command) => obey(heap, book, command),

@@ -10,10 +10,10 @@ use Rattle.histories.proofs.Laws.{lawful}
 use Rattle.histories.proofs.compare.compare.Goals as goal
 
 pub of-of_first-requires : goal.of-of_first-requires
-of-of_first-requires g c = well _ _ (acts_of c.args.first.now) c.replay-one.ensures.ledger
+of-of_first-requires g c = record { well = well _ _ (acts_of c.args.first.now) c.replay-one.ensures.ledger; ranged = c.replay-one.ensures.ranged }
 
 pub of-of_second-requires : goal.of-of_second-requires
-of-of_second-requires g c = well _ _ (acts_of c.args.second.now) c.replay-two.ensures.ledger
+of-of_second-requires g c = record { well = well _ _ (acts_of c.args.second.now) c.replay-two.ensures.ledger; ranged = c.replay-two.ensures.ranged }
 
 pub file-requires : goal.file-requires
 file-requires g c =
@@ -23,7 +23,10 @@ file-requires g c =
     let first = acts_of c.args.first.now in
     let left = files_are _ _ first c.replay-one.ensures.ledger m _ (ap meant c.replay-one.ensures.bounds) _ _ _ c.of-of_first.ensures in
     let fits = mitigated_fits m keeps first in
-    subst (WellFormed kinds) (sym (reloaded (mitigated m (slots_after first)) fits _ _ (c.part.ensures ∙ left.mitigated_file_drawn.same) c.open-new.ensures.ledger _ c.load.ensures.ledger)) fits
+    record {
+      well = subst (WellFormed kinds) (sym (reloaded (mitigated m (slots_after first)) fits _ _ (c.part.ensures ∙ left.mitigated_file_drawn.same) c.open-new.ensures.ledger _ c.load.ensures.ledger)) fits;
+      ranged = c.load.ensures.ranged c.open-new.ensures.ranged;
+    }
 
 pub returns : goal.returns
 returns g c =

@@ -7,7 +7,10 @@ pub returns-in-Err : goal.returns-in-Err
 returns-in-Err g c = answered c.args.expected.now _ c.open-book.ensures.ledger (Err c.in-Err.refusal) c.in-Err.ensures.answer
 
 pub first_difference-requires : goal.first_difference-requires
-first_difference-requires g c = fits c.args.expected.now _ c.open-book.ensures.ledger _ _ c.load.ensures.ledger
+first_difference-requires g c = record {
+  well = fits c.args.expected.now _ c.open-book.ensures.ledger _ _ c.load.ensures.ledger;
+  ranged = c.load.ensures.ranged c.open-book.ensures.ranged;
+}
 
 pub returns-in-Some : goal.returns-in-Some
 returns-in-Some g c =

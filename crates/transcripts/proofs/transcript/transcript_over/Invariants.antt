@@ -1,14 +1,18 @@
 use Rattle.std.proofs.Common.{◌≡◌, length, string_bytes}
 use Rattle.charges.specs.Findings.{meant_by}
+use Rattle.table.specs.Ranges.{AllRanged}
 use Rattle.book.specs.Ledgers.{ledger_of}
 use Rattle.transcripts.proofs.Answering.{Answered}
 use Rattle.transcripts.proofs.transcript.transcript_over.Given as goal
 
 abbrev pub invariant-loop-line : goal.invariant-loop-line
 invariant-loop-line g l =
-    (l.book.places ≡ l.initial.book.places)
-    × Answered (meant_by g.C.Bound.meaning g.A.Bound.meaning g.I.Bound.meaning g.Q.Bound.meaning l.initial.book.places) l.script l.rest
-    (ledger_of l.book.table l.book.is_open) (string_bytes l.text) l.number
+    record {
+      bounds : l.book.places ≡ l.initial.book.places;
+      ranged : AllRanged l.book.table;
+      answered : Answered (meant_by g.C.Bound.meaning g.A.Bound.meaning g.I.Bound.meaning g.Q.Bound.meaning l.initial.book.places) l.script l.rest
+          (ledger_of l.book.table l.book.is_open) (string_bytes l.text) l.number;
+    }
 
 abbrev pub decreases-loop-line : goal.decreases-loop-line
 decreases-loop-line g l = length l.rest
