@@ -3,7 +3,7 @@ ghost use Rattle.std.specs.Prelude.{◌≡◌, ℕ, ◌^◌, ◌<◌, IfSome, No
 ghost use Rattle.vocabulary.specs.Readings.{lines_of};
 ghost use Rattle.charges.specs.Findings.{meant_by};
 ghost use Rattle.charges.specs.Tables.{owns_of};
-ghost use Rattle.answers.specs.Answers.{listed as ListedOf};
+ghost use Rattle.answers.specs.Answers.{listed as listed_of};
 ghost use Rattle.answers.specs.Lines.{sum};
 ghost use Rattle.answers.specs.Shares.{Shared};
 
@@ -24,7 +24,7 @@ fn listed_one<C: BoundBelow, A: BoundBelow, I: BoundBelow, Q: BoundAbove>(
 ) -> Option<Answer>
     requires index { i < 32 }
     requires shared { Shared (Q.Bound.meaning places.now.quantities.bound) (lines_of lines.now) (owns_of table.now) shares.now }
-    ensures value { result ≡ ListedOf (meant_by C.Bound.meaning A.Bound.meaning I.Bound.meaning Q.Bound.meaning places.now) (lines_of lines.now) (owns_of table.now) i }
+    ensures value { result ≡ listed_of (meant_by C.Bound.meaning A.Bound.meaning I.Bound.meaning Q.Bound.meaning places.now) (lines_of lines.now) (owns_of table.now) i }
     ensures small { IfSome result (λ a. sum a.charges < 2 ^ 64) }
 {
     if table[i].standing.is_some() {
@@ -40,7 +40,7 @@ pub fn listed<C: BoundBelow, A: BoundBelow, I: BoundBelow, Q: BoundAbove>(
     lines: &[Option<Terms>; 50],
     table: &[Resource; 32],
 ) -> [Option<Answer>; 32]
-    ensures value { (k : ℕ) → k < 32 → slice_index_or result k None ≡ ListedOf (meant_by C.Bound.meaning A.Bound.meaning I.Bound.meaning Q.Bound.meaning places.now) (lines_of lines.now) (owns_of table.now) k }
+    ensures value { (k : ℕ) → k < 32 → slice_index_or result k None ≡ listed_of (meant_by C.Bound.meaning A.Bound.meaning I.Bound.meaning Q.Bound.meaning places.now) (lines_of lines.now) (owns_of table.now) k }
     ensures small { (k : ℕ) → k < 32 → IfSome (slice_index_or result k None) (λ a. sum a.charges < 2 ^ 64) }
 {
     let shares = Shares::of(&places.quantities, lines, table);

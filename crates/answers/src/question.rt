@@ -5,7 +5,7 @@ ghost use Rattle.verdicts.specs.Rules.{amount_conduct as amount_conduct_of};
 ghost use Rattle.charges.specs.Findings.{meant_by, finding as finding_of};
 ghost use Rattle.charges.specs.Tables.{owns_of};
 ghost use Rattle.answers.specs.Answers.{answer as answer_of};
-ghost use Rattle.answers.specs.Assembling.{amount_conducts, assembled as AssembledOf};
+ghost use Rattle.answers.specs.Assembling.{amount_conducts, assembled as assembled_of};
 ghost use Rattle.answers.specs.Lines.{sum};
 ghost use Rattle.answers.specs.Shares.{Shared};
 
@@ -98,7 +98,7 @@ fn assembled(
     thirty_minute: &Finding,
     amounts: AmountConducts,
 ) -> Answer
-    ensures { result ≡ AssembledOf energy.now spinning.now non_spinning.now thirty_minute.now amounts }
+    ensures { result ≡ assembled_of energy.now spinning.now non_spinning.now thirty_minute.now amounts }
 {
     let e = energy.verdicts;
     let s = spinning.verdicts;

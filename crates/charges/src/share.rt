@@ -1,7 +1,7 @@
 // What a resource brings to the groups of a product, worked out once.
 ghost use Rattle.std.specs.Prelude.{◌≡◌, ◌≤◌};
 ghost use Rattle.vocabulary.specs.Readings.{own_of, lines_of};
-ghost use Rattle.charges.specs.Groups.{known as KnownOf, group_of, share as share_of, is_group, brought as brought_of};
+ghost use Rattle.charges.specs.Groups.{known as known_of, group_of, share as share_of, is_group, brought as brought_of};
 
 use bounds::bound::Bound;
 use kinds::amounts::Amounts;
@@ -30,7 +30,7 @@ pub struct Share {
 
 // A quantity that is missing counts as 0.
 pub fn known(quantity: Option<u32>) -> u32
-    ensures { result ≡ KnownOf quantity }
+    ensures { result ≡ known_of quantity }
 {
     quantity.unwrap_or(0)
 }

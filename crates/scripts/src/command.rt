@@ -2,7 +2,7 @@
 // `listing`, with single blanks. HEX may have no digits, and then its blank may be missing too.
 ghost use Rattle.std.specs.Prelude.{◌≡◌};
 ghost use Rattle.std.specs.Option.{option_map};
-ghost use Rattle.scripts.specs.Commands.{order_of, alone as AloneOf, with_one as one_of_lem, with_three as three_of, command_of};
+ghost use Rattle.scripts.specs.Commands.{order_of, alone as alone_of, with_one as one_of_lem, with_three as three_of, command_of};
 
 use crate::decimal::read_byte;
 use crate::hex::is_hex;
@@ -23,7 +23,7 @@ pub enum Command<'a> {
 
 // A name by itself; `post` and `load` then have no bytes.
 fn alone(name: &[u8]) -> Option<Command<'_>>
-    ensures { option_map order_of result ≡ AloneOf name.now }
+    ensures { option_map order_of result ≡ alone_of name.now }
 {
     if is(name, b"post") {
         Some(Command::Post(&name[name.len()..]))
