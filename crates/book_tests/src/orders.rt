@@ -6,9 +6,8 @@ mod tests {
     use bounds::ceiling::Ceiling;
     use bounds::exemption::Exemption;
     use bounds::shortfall::Shortfall;
-    use histories::again::write_again;
     use histories::call::Call;
-    use histories::compare::compare;
+    use histories::compare::{compare, write_again};
     use supplier::Margin;
     use verdicts::places::{Places, standard};
 
@@ -50,8 +49,20 @@ mod tests {
         ];
         let r = compare(standard(), &first, standard(), &second);
         assert!(rt; r.alike);
-        assert!(rt; r.first.entries.length == 30 && r.second.entries.length == 30);
-        assert!(rt; r.first.listing.length == 0 && r.taken && r.again.length == 30);
+        assert!(rt; r.first.length == 30 && r.second.length == 30);
+    }
+
+    // The first's listing is empty, and a third book takes and writes its mitigated file of 30 bytes.
+    #[test]
+    fn a_mitigated_file_is_taken(rt: HostRuntime) {
+        let calls = [
+            Call::Post(&PRICE),
+            Call::Post(&QUANTITY),
+            Call::Post(&REMARK),
+            Call::Close,
+        ];
+        let r = compare(standard(), &calls, standard(), &[]);
+        assert!(rt; r.first_listing.length == 0 && r.taken && r.again.length == 30);
     }
 
     #[test]
