@@ -12,7 +12,7 @@ use Rattle.vocabulary.specs.Readings.{no_row}
 use Rattle.bodies.specs.Bodies.{standing_bytes, most_steps}
 use Rattle.bodies.specs.Curves.{curve_bytes}
 use Rattle.bodies.specs.Numbers.{word_bytes, number_bytes}
-use Rattle.table.specs.Ranges.{every, amount_ranged, price_ranged, quantity_ranged, row_ranged}
+use Rattle.table.specs.Ranges.{every, amount_ranged, price_ranged, quantity_ranged, row_ranged, values_ranged, ranged}
 use Rattle.table.specs.Holding.{by_kind, at_sub_zero, values_hold, remark_held, holds, ValuesChanged, Changed}
 use Rattle.table.proofs.Keeping.{every_set, parts, together}
 
@@ -29,6 +29,13 @@ module _ (k : ℕ) {a b c d e f a' b' c' d' e' f' : Option (List ℕ)} where
   same_by_kind : (k ≡ 2 → a ≡ a') → (k ≡ 3 → b ≡ b') → (k ≡ 4 → c ≡ c') → (k ≡ 5 → d ≡ d') → (k ≡ 6 → e ≡ e') → (k ≡ 7 → f ≡ f')
       → by_kind k a b c d e f None ≡ by_kind k a' b' c' d' e' f' None
   same_by_kind p q r s t u = branch p (branch q (branch r (branch s (branch t (branch u refl)))))
+
+-- what changed, and what was in range still is
+abbrev pub Changes : Resource → Resource → ℕ → ℕ → Option (List ℕ) → Type 0
+Changes r r' kind sub body = record { changed : Changed r r' kind sub body; kept : ranged r ≡ true → ranged r' ≡ true }
+
+abbrev pub ValuesChange : Values → Values → ℕ → Option (List ℕ) → Type 0
+ValuesChange v v' parameter body = record { changed : ValuesChanged v v' parameter body; kept : values_ranged v ≡ true → values_ranged v' ≡ true }
 
 same : {A : Type 0} {x : A} {P : Type 0} → P → x ≡ x
 same _ = refl
@@ -55,73 +62,89 @@ module _ (r : Resource) where
   abbrev pub with_remark : Remark → Resource
   with_remark m = record { standing = r.standing; offer = r.offer; reference = r.reference; quantities = r.quantities; prices = r.prices; remark = m }
 
-  pub standing_changed : (s : Option Standing) (body : Option (List ℕ)) → option_map standing_bytes s ≡ body → Changed r (with_standing s) 2 0 body
+  pub standing_changed : (s : Option Standing) (body : Option (List ℕ)) → option_map standing_bytes s ≡ body → Changes r (with_standing s) 2 0 body
   unfolding holds
   standing_changed s body e = record {
-    here = e;
-    elsewhere = λ k u ne. same_by_kind k (λ is. off_zero u _ _ (λ zero. ne is zero)) same same same same same;
+    changed = record {
+      here = e;
+      elsewhere = λ k u ne. same_by_kind k (λ is. off_zero u _ _ (λ zero. ne is zero)) same same same same same;
+    };
     kept = λ kept. kept;
   }
 
-  pub remark_changed : (m : Remark) (body : Option (List ℕ)) → remark_held m ≡ body → Changed r (with_remark m) 7 0 body
+  pub remark_changed : (m : Remark) (body : Option (List ℕ)) → remark_held m ≡ body → Changes r (with_remark m) 7 0 body
   unfolding holds
   remark_changed m body e = record {
-    here = e;
-    elsewhere = λ k u ne. same_by_kind k same same same same same (λ is. off_zero u _ _ (λ zero. ne is zero));
+    changed = record {
+      here = e;
+      elsewhere = λ k u ne. same_by_kind k same same same same same (λ is. off_zero u _ _ (λ zero. ne is zero));
+    };
     kept = λ kept. kept;
   }
 
   module _ (sub : ℕ) (body : Option (List ℕ)) where
-    pub quantity_changed : (q : Option ℕ) → sub < length r.quantities → option_map word_bytes q ≡ body → quantity_ranged q ≡ true → Changed r (with_quantities (set r.quantities sub q)) 5 sub body
+    pub quantity_changed : (q : Option ℕ) → sub < length r.quantities → option_map word_bytes q ≡ body → quantity_ranged q ≡ true → Changes r (with_quantities (set r.quantities sub q)) 5 sub body
     unfolding holds
     quantity_changed q h e keeps = record {
-      here = ap (option_map word_bytes) (get_or-set_same r.quantities sub q None h) ∙ e;
-      elsewhere = λ k u ne. same_by_kind k same same same (λ is. ap (option_map word_bytes) (get_or-set_other r.quantities sub u q None (ne is))) same same;
+      changed = record {
+        here = ap (option_map word_bytes) (get_or-set_same r.quantities sub q None h) ∙ e;
+        elsewhere = λ k u ne. same_by_kind k same same same (λ is. ap (option_map word_bytes) (get_or-set_other r.quantities sub u q None (ne is))) same same;
+      };
       kept = λ kept. let p = parts r kept in together (with_quantities (set r.quantities sub q)) (record { offer = p.offer; reference = p.reference; quantities = every_set quantity_ranged r.quantities sub q keeps p.quantities; prices = p.prices });
     }
 
-    pub price_changed : (p : Option ℤ) → sub < length r.prices → option_map number_bytes p ≡ body → price_ranged p ≡ true → Changed r (with_prices (set r.prices sub p)) 6 sub body
+    pub price_changed : (p : Option ℤ) → sub < length r.prices → option_map number_bytes p ≡ body → price_ranged p ≡ true → Changes r (with_prices (set r.prices sub p)) 6 sub body
     unfolding holds
     price_changed p h e keeps = record {
-      here = ap (option_map number_bytes) (get_or-set_same r.prices sub p None h) ∙ e;
-      elsewhere = λ k u ne. same_by_kind k same same same same (λ is. ap (option_map number_bytes) (get_or-set_other r.prices sub u p None (ne is))) same;
+      changed = record {
+        here = ap (option_map number_bytes) (get_or-set_same r.prices sub p None h) ∙ e;
+        elsewhere = λ k u ne. same_by_kind k same same same same (λ is. ap (option_map number_bytes) (get_or-set_other r.prices sub u p None (ne is))) same;
+      };
       kept = λ kept. let w = parts r kept in together (with_prices (set r.prices sub p)) (record { offer = w.offer; reference = w.reference; quantities = w.quantities; prices = every_set price_ranged r.prices sub p keeps w.prices });
     }
 
-    pub offer_changed : (v : Values) → ValuesChanged r.offer v sub body → Changed r (with_offer v) 3 sub body
+    pub offer_changed : (v : Values) → ValuesChange r.offer v sub body → Changes r (with_offer v) 3 sub body
     unfolding holds
     offer_changed v c = record {
-      here = c.here;
-      elsewhere = λ k u ne. same_by_kind k same (λ is. c.elsewhere u (ne is)) same same same same;
+      changed = record {
+        here = c.changed.here;
+        elsewhere = λ k u ne. same_by_kind k same (λ is. c.changed.elsewhere u (ne is)) same same same same;
+      };
       kept = λ kept. let p = parts r kept in together (with_offer v) (record { offer = c.kept p.offer; reference = p.reference; quantities = p.quantities; prices = p.prices });
     }
 
-    pub reference_changed : (v : Values) → ValuesChanged r.reference v sub body → Changed r (with_reference v) 4 sub body
+    pub reference_changed : (v : Values) → ValuesChange r.reference v sub body → Changes r (with_reference v) 4 sub body
     unfolding holds
     reference_changed v c = record {
-      here = c.here;
-      elsewhere = λ k u ne. same_by_kind k same same (λ is. c.elsewhere u (ne is)) same same same;
+      changed = record {
+        here = c.changed.here;
+        elsewhere = λ k u ne. same_by_kind k same same (λ is. c.changed.elsewhere u (ne is)) same same same;
+      };
       kept = λ kept. let p = parts r kept in together (with_reference v) (record { offer = p.offer; reference = c.kept p.reference; quantities = p.quantities; prices = p.prices });
     }
 
 module _ (v : Values) (sub : ℕ) (body : Option (List ℕ)) where
   pub curve_changed : (row : Row) → sub < 4 → sub < length v.curves → option_map curve_bytes (curve_in (most_steps sub) row) ≡ body → row_ranged row ≡ true
-      → ValuesChanged v (record { curves = set v.curves sub row; amounts = v.amounts }) sub body
+      → ValuesChange v (record { curves = set v.curves sub row; amounts = v.amounts }) sub body
   unfolding values_hold
   curve_changed row small h e keeps = record {
-    here = cond-true (ltb sub 4) _ _ (lt-ltb sub 4 small) ∙ ap (λ w. option_map curve_bytes (curve_in (most_steps sub) w)) (get_or-set_same v.curves sub row no_row h) ∙ e;
-    elsewhere = λ p ne. ap (λ w. cond (ltb p 4) (option_map curve_bytes (curve_in (most_steps p) w)) (option_map number_bytes (get_or v.amounts (p - 4) None))) (get_or-set_other v.curves sub p row no_row ne);
+    changed = record {
+      here = cond-true (ltb sub 4) _ _ (lt-ltb sub 4 small) ∙ ap (λ w. option_map curve_bytes (curve_in (most_steps sub) w)) (get_or-set_same v.curves sub row no_row h) ∙ e;
+      elsewhere = λ p ne. ap (λ w. cond (ltb p 4) (option_map curve_bytes (curve_in (most_steps p) w)) (option_map number_bytes (get_or v.amounts (p - 4) None))) (get_or-set_other v.curves sub p row no_row ne);
+    };
     kept = λ kept. let p = and_parts (every row_ranged v.curves) (every amount_ranged v.amounts) kept in and_from _ _ (every_set row_ranged v.curves sub row keeps p.0) p.1;
   }
 
   pub amount_changed : (z : Option ℤ) → 4 ≤ sub → sub - 4 < length v.amounts → option_map number_bytes z ≡ body → amount_ranged z ≡ true
-      → ValuesChanged v (record { curves = v.curves; amounts = set v.amounts (sub - 4) z }) sub body
+      → ValuesChange v (record { curves = v.curves; amounts = set v.amounts (sub - 4) z }) sub body
   unfolding values_hold
   amount_changed z large h e keeps = record {
-    here = cond-false (ltb sub 4) _ _ (le-ltb sub 4 large) ∙ ap (option_map number_bytes) (get_or-set_same v.amounts (sub - 4) z None h) ∙ e;
-    elsewhere = λ p ne. ⊎_elim
-        (λ t. cond-true (ltb p 4) _ _ t ∙ sym (cond-true (ltb p 4) _ _ t))
-        (λ f. cond-false (ltb p 4) _ _ f ∙ ap (option_map number_bytes) (get_or-set_other v.amounts (sub - 4) (p - 4) z None (λ is. let le = ltb-false p 4 f in ne (omega arith))) ∙ sym (cond-false (ltb p 4) _ _ f))
-        (cases_Bool (ltb p 4));
+    changed = record {
+      here = cond-false (ltb sub 4) _ _ (le-ltb sub 4 large) ∙ ap (option_map number_bytes) (get_or-set_same v.amounts (sub - 4) z None h) ∙ e;
+      elsewhere = λ p ne. ⊎_elim
+          (λ t. cond-true (ltb p 4) _ _ t ∙ sym (cond-true (ltb p 4) _ _ t))
+          (λ f. cond-false (ltb p 4) _ _ f ∙ ap (option_map number_bytes) (get_or-set_other v.amounts (sub - 4) (p - 4) z None (λ is. let le = ltb-false p 4 f in ne (omega arith))) ∙ sym (cond-false (ltb p 4) _ _ f))
+          (cases_Bool (ltb p 4));
+    };
     kept = λ kept. let p = and_parts (every row_ranged v.curves) (every amount_ranged v.amounts) kept in and_from _ _ p.0 (every_set amount_ranged v.amounts (sub - 4) z keeps p.1);
   }

@@ -9,7 +9,6 @@ use Rattle.vocabulary.specs.Readings.{no_row}
 use Rattle.bodies.specs.Bodies.{standing_bytes, most_steps, remark_bytes, remark_fault}
 use Rattle.bodies.specs.Curves.{curve_bytes}
 use Rattle.bodies.specs.Numbers.{word_bytes, number_bytes}
-use Rattle.table.specs.Ranges.{values_ranged, ranged}
 
 -- an offer's or a reference's parameter
 unfoldable pub values_hold : Values → ℕ → Option (List ℕ)
@@ -46,14 +45,12 @@ holds r kind sub =
     (at_sub_zero sub (remark_held r.remark))
     None
 
--- the parameter holds the body, the others what they held, and what was in range still is
+-- the parameter holds the body, and the others what they held
 pub record ValuesChanged (v v' : Values) (parameter : ℕ) (body : Option (List ℕ)) : Type 0 where
   pub here : values_hold v' parameter ≡ body
   pub elsewhere : (p : ℕ) → (p ≢ parameter) → values_hold v' p ≡ values_hold v p
-  pub kept : values_ranged v ≡ true → values_ranged v' ≡ true
 
--- the slot of a kind and a sub holds the body, the others what they held, and what was in range still is
+-- the slot of a kind and a sub holds the body, and the others what they held
 pub record Changed (r r' : Resource) (kind sub : ℕ) (body : Option (List ℕ)) : Type 0 where
   pub here : holds r' kind sub ≡ body
   pub elsewhere : (k u : ℕ) → (k ≡ kind → u ≢ sub) → holds r' k u ≡ holds r k u
-  pub kept : ranged r ≡ true → ranged r' ≡ true

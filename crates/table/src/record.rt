@@ -1,7 +1,8 @@
 // One resource's record takes the body of an entry into a slot, or gives it up.
-ghost use Rattle.std.specs.Prelude.{◌≡◌, ◌<◌, ◌≤◌, is_some, Some, None};
+ghost use Rattle.std.specs.Prelude.{◌≡◌, ◌<◌, ◌≤◌, true, is_some, Some, None};
 ghost use Rattle.bodies.specs.Bodies.{standing_fault, parameter_fault, curve_fault, amount_fault, quantity_fault, price_fault, remark_fault};
 ghost use Rattle.table.specs.Holding.{values_hold, remark_held, holds, ValuesChanged, Changed};
+ghost use Rattle.table.specs.Ranges.{values_ranged, ranged};
 
 use bodies::amounts::{read_amount, read_price, read_quantity};
 use bodies::remarks::read_remark;
@@ -13,7 +14,8 @@ use vocabulary::resource::{Remark, Resource, Values};
 
 pub fn take_standing(resource: &mut Resource, body: &[u8])
     requires { standing_fault body.now ≡ 0 }
-    ensures { Changed resource.old resource.new 2 0 (Some body.now) }
+    ensures changed { Changed resource.old resource.new 2 0 (Some body.now) }
+    ensures kept { ranged resource.old ≡ true → ranged resource.new ≡ true }
 {
     if let Ok(standing) = read_standing(body) {
         resource.standing = Some(standing);
@@ -23,7 +25,8 @@ pub fn take_standing(resource: &mut Resource, body: &[u8])
 pub fn take_quantity(resource: &mut Resource, product: usize, body: &[u8])
     requires product { product < 4 }
     requires fault { quantity_fault body.now ≡ 0 }
-    ensures { Changed resource.old resource.new 5 product (Some body.now) }
+    ensures changed { Changed resource.old resource.new 5 product (Some body.now) }
+    ensures kept { ranged resource.old ≡ true → ranged resource.new ≡ true }
 {
     if let Ok(quantity) = read_quantity(body) {
         resource.quantities[product] = Some(quantity);
@@ -33,7 +36,8 @@ pub fn take_quantity(resource: &mut Resource, product: usize, body: &[u8])
 pub fn take_price(resource: &mut Resource, run: usize, body: &[u8])
     requires run { run < 12 }
     requires fault { price_fault body.now ≡ 0 }
-    ensures { Changed resource.old resource.new 6 run (Some body.now) }
+    ensures changed { Changed resource.old resource.new 6 run (Some body.now) }
+    ensures kept { ranged resource.old ≡ true → ranged resource.new ≡ true }
 {
     if let Ok(price) = read_price(body) {
         resource.prices[run] = Some(price);
@@ -42,7 +46,8 @@ pub fn take_price(resource: &mut Resource, run: usize, body: &[u8])
 
 pub fn take_remark(resource: &mut Resource, body: &[u8])
     requires { remark_fault body.now ≡ 0 }
-    ensures { Changed resource.old resource.new 7 0 (Some body.now) }
+    ensures changed { Changed resource.old resource.new 7 0 (Some body.now) }
+    ensures kept { ranged resource.old ≡ true → ranged resource.new ≡ true }
 {
     if let Ok(remark) = read_remark(body) {
         resource.remark = remark;
@@ -52,7 +57,8 @@ pub fn take_remark(resource: &mut Resource, body: &[u8])
 fn take_curve(values: &mut Values, parameter: u8, body: &[u8])
     requires parameter { parameter < 4 }
     requires fault { curve_fault parameter body.now ≡ 0 }
-    ensures { ValuesChanged values.old values.new parameter (Some body.now) }
+    ensures changed { ValuesChanged values.old values.new parameter (Some body.now) }
+    ensures kept { values_ranged values.old ≡ true → values_ranged values.new ≡ true }
 {
     if let Ok(row) = read_curve(parameter, body) {
         values.curves[parameter as usize] = row;
@@ -62,7 +68,8 @@ fn take_curve(values: &mut Values, parameter: u8, body: &[u8])
 fn take_amount(values: &mut Values, parameter: u8, body: &[u8])
     requires parameter { (4 ≤ parameter) × (parameter < 8) }
     requires fault { amount_fault parameter body.now ≡ 0 }
-    ensures { ValuesChanged values.old values.new parameter (Some body.now) }
+    ensures changed { ValuesChanged values.old values.new parameter (Some body.now) }
+    ensures kept { values_ranged values.old ≡ true → values_ranged values.new ≡ true }
 {
     if let Ok(amount) = read_amount(parameter, body) {
         values.amounts[parameter as usize - 4] = Some(amount);
@@ -73,7 +80,8 @@ fn take_amount(values: &mut Values, parameter: u8, body: &[u8])
 pub fn take_parameter(values: &mut Values, parameter: u8, body: &[u8])
     requires parameter { parameter < 8 }
     requires fault { parameter_fault parameter body.now ≡ 0 }
-    ensures { ValuesChanged values.old values.new parameter (Some body.now) }
+    ensures changed { ValuesChanged values.old values.new parameter (Some body.now) }
+    ensures kept { values_ranged values.old ≡ true → values_ranged values.new ≡ true }
 {
     if parameter < 4 {
         take_curve(values, parameter, body);
@@ -85,7 +93,8 @@ pub fn take_parameter(values: &mut Values, parameter: u8, body: &[u8])
 pub fn take_offer(resource: &mut Resource, parameter: u8, body: &[u8])
     requires parameter { parameter < 8 }
     requires fault { parameter_fault parameter body.now ≡ 0 }
-    ensures { Changed resource.old resource.new 3 parameter (Some body.now) }
+    ensures changed { Changed resource.old resource.new 3 parameter (Some body.now) }
+    ensures kept { ranged resource.old ≡ true → ranged resource.new ≡ true }
 {
     take_parameter(&mut resource.offer, parameter, body);
 }
@@ -93,7 +102,8 @@ pub fn take_offer(resource: &mut Resource, parameter: u8, body: &[u8])
 pub fn take_reference(resource: &mut Resource, parameter: u8, body: &[u8])
     requires parameter { parameter < 8 }
     requires fault { parameter_fault parameter body.now ≡ 0 }
-    ensures { Changed resource.old resource.new 4 parameter (Some body.now) }
+    ensures changed { Changed resource.old resource.new 4 parameter (Some body.now) }
+    ensures kept { ranged resource.old ≡ true → ranged resource.new ≡ true }
 {
     take_parameter(&mut resource.reference, parameter, body);
 }
@@ -104,6 +114,7 @@ fn empty_curve(values: &mut Values, parameter: u8) -> bool
     requires { parameter < 4 }
     ensures changed { ValuesChanged values.old values.new parameter None }
     ensures was { result ≡ is_some (values_hold values.old parameter) }
+    ensures kept { values_ranged values.old ≡ true → values_ranged values.new ≡ true }
 {
     let row = values.curves[parameter as usize];
     values.curves[parameter as usize] = Row::empty();
@@ -114,6 +125,7 @@ fn empty_amount(values: &mut Values, parameter: u8) -> bool
     requires { (4 ≤ parameter) × (parameter < 8) }
     ensures changed { ValuesChanged values.old values.new parameter None }
     ensures was { result ≡ is_some (values_hold values.old parameter) }
+    ensures kept { values_ranged values.old ≡ true → values_ranged values.new ≡ true }
 {
     let amount = values.amounts[parameter as usize - 4];
     values.amounts[parameter as usize - 4] = None;
@@ -124,6 +136,7 @@ fn empty_parameter(values: &mut Values, parameter: u8) -> bool
     requires { parameter < 8 }
     ensures changed { ValuesChanged values.old values.new parameter None }
     ensures was { result ≡ is_some (values_hold values.old parameter) }
+    ensures kept { values_ranged values.old ≡ true → values_ranged values.new ≡ true }
 {
     if parameter < 4 {
         empty_curve(values, parameter)
@@ -135,6 +148,7 @@ fn empty_parameter(values: &mut Values, parameter: u8) -> bool
 pub fn empty_standing(resource: &mut Resource) -> bool
     ensures changed { Changed resource.old resource.new 2 0 None }
     ensures was { result ≡ is_some (holds resource.old 2 0) }
+    ensures kept { ranged resource.old ≡ true → ranged resource.new ≡ true }
 {
     let standing = resource.standing;
     resource.standing = None;
@@ -145,6 +159,7 @@ pub fn empty_offer(resource: &mut Resource, parameter: u8) -> bool
     requires { parameter < 8 }
     ensures changed { Changed resource.old resource.new 3 parameter None }
     ensures was { result ≡ is_some (holds resource.old 3 parameter) }
+    ensures kept { ranged resource.old ≡ true → ranged resource.new ≡ true }
 {
     empty_parameter(&mut resource.offer, parameter)
 }
@@ -153,6 +168,7 @@ pub fn empty_reference(resource: &mut Resource, parameter: u8) -> bool
     requires { parameter < 8 }
     ensures changed { Changed resource.old resource.new 4 parameter None }
     ensures was { result ≡ is_some (holds resource.old 4 parameter) }
+    ensures kept { ranged resource.old ≡ true → ranged resource.new ≡ true }
 {
     empty_parameter(&mut resource.reference, parameter)
 }
@@ -161,6 +177,7 @@ pub fn empty_quantity(resource: &mut Resource, product: usize) -> bool
     requires { product < 4 }
     ensures changed { Changed resource.old resource.new 5 product None }
     ensures was { result ≡ is_some (holds resource.old 5 product) }
+    ensures kept { ranged resource.old ≡ true → ranged resource.new ≡ true }
 {
     let quantity = resource.quantities[product];
     resource.quantities[product] = None;
@@ -171,6 +188,7 @@ pub fn empty_price(resource: &mut Resource, run: usize) -> bool
     requires { run < 12 }
     ensures changed { Changed resource.old resource.new 6 run None }
     ensures was { result ≡ is_some (holds resource.old 6 run) }
+    ensures kept { ranged resource.old ≡ true → ranged resource.new ≡ true }
 {
     let price = resource.prices[run];
     resource.prices[run] = None;
@@ -186,6 +204,7 @@ fn has_words(remark: Remark) -> bool
 pub fn empty_remark(resource: &mut Resource) -> bool
     ensures changed { Changed resource.old resource.new 7 0 None }
     ensures was { result ≡ is_some (holds resource.old 7 0) }
+    ensures kept { ranged resource.old ≡ true → ranged resource.new ≡ true }
 {
     let remark = resource.remark;
     resource.remark = Remark {

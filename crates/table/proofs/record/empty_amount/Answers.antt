@@ -8,7 +8,10 @@ use Rattle.table.proofs.record.empty_amount.Goals as goal
 
 pub returns : goal.returns
 unfolding values_hold
-returns c = record {
-  changed = amount_changed c.args.values.now c.args.parameter _ None (omega arith) (omega arith) refl refl;
-  was = c.is_some.ensures ∙ some_mapped number_bytes _ ∙ ap is_some (sym (cond-false _ _ _ (le-ltb c.args.parameter 4 (omega arith))));
-}
+returns c =
+    let now = amount_changed c.args.values.now c.args.parameter _ None (omega arith) (omega arith) refl refl in
+    record {
+      changed = now.changed;
+      was = c.is_some.ensures ∙ some_mapped number_bytes _ ∙ ap is_some (sym (cond-false _ _ _ (le-ltb c.args.parameter 4 (omega arith))));
+      kept = now.kept;
+    }

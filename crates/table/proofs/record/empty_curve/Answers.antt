@@ -17,9 +17,11 @@ pub returns : goal.returns
 unfolding values_hold
 returns c =
     let row = get_or c.args.values.now.curves c.args.parameter no_row in
+    let now = curve_changed c.args.values.now c.args.parameter _ _ (omega arith) (omega arith)
+    (ap (λ (w : Row). option_map curve_bytes (curve_in (most_steps c.args.parameter) w)) c.empty.ensures) (ap row_ranged c.empty.ensures) in
     record {
-      changed = curve_changed c.args.values.now c.args.parameter _ _ (omega arith) (omega arith)
-          (ap (λ (w : Row). option_map curve_bytes (curve_in (most_steps c.args.parameter) w)) c.empty.ensures) (ap row_ranged c.empty.ensures);
+      changed = now.changed;
       was = c.is_some.ensures ∙ some_mapped steps_of _ ∙ ap is_some (c.of_row.ensures.steps ∙ ap (λ n. curve_in n row) c.most_steps.ensures)
           ∙ some_mapped curve_bytes _ ∙ ap is_some (sym (cond-true _ _ _ (lt-ltb c.args.parameter 4 (omega arith))));
+      kept = now.kept;
     }

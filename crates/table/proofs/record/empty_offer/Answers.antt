@@ -4,4 +4,7 @@ use Rattle.table.proofs.record.empty_offer.Goals as goal
 
 pub returns : goal.returns
 unfolding holds
-returns c = record { changed = offer_changed c.args.resource.now c.args.parameter _ _ c.empty_parameter.ensures.changed; was = c.empty_parameter.ensures.was }
+returns c =
+    let e = c.empty_parameter.ensures in
+    let now = offer_changed c.args.resource.now c.args.parameter _ _ (record { changed = e.changed; kept = e.kept }) in
+    record { changed = now.changed; was = e.was; kept = now.kept }

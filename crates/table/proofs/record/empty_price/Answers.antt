@@ -7,4 +7,6 @@ use Rattle.table.proofs.record.empty_price.Goals as goal
 
 pub returns : goal.returns
 unfolding holds
-returns c = record { changed = price_changed c.args.resource.now c.args.run _ None (omega arith) refl refl; was = c.is_some.ensures ∙ some_mapped number_bytes _ }
+returns c =
+    let now = price_changed c.args.resource.now c.args.run _ None (omega arith) refl refl in
+    record { changed = now.changed; was = c.is_some.ensures ∙ some_mapped number_bytes _; kept = now.kept }

@@ -7,4 +7,6 @@ use Rattle.table.proofs.record.empty_quantity.Goals as goal
 
 pub returns : goal.returns
 unfolding holds
-returns c = record { changed = quantity_changed c.args.resource.now c.args.product _ None (omega arith) refl refl; was = c.is_some.ensures ∙ some_mapped word_bytes _ }
+returns c =
+    let now = quantity_changed c.args.resource.now c.args.product _ None (omega arith) refl refl in
+    record { changed = now.changed; was = c.is_some.ensures ∙ some_mapped word_bytes _; kept = now.kept }

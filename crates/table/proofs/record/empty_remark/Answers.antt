@@ -5,4 +5,6 @@ use Rattle.table.proofs.record.empty_remark.Goals as goal
 
 pub returns : goal.returns
 unfolding holds
-returns c = record { changed = remark_changed c.args.resource.now _ _ refl; was = c.has_words.ensures }
+returns c =
+    let now = remark_changed c.args.resource.now _ _ refl in
+    record { changed = now.changed; was = c.has_words.ensures; kept = now.kept }

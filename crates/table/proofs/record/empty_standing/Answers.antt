@@ -7,4 +7,6 @@ use Rattle.table.proofs.record.empty_standing.Goals as goal
 
 pub returns : goal.returns
 unfolding holds
-returns c = record { changed = standing_changed c.args.resource.now None _ refl; was = c.is_some.ensures ∙ some_mapped standing_bytes _ }
+returns c =
+    let now = standing_changed c.args.resource.now None _ refl in
+    record { changed = now.changed; was = c.is_some.ensures ∙ some_mapped standing_bytes _; kept = now.kept }

@@ -12,5 +12,5 @@ returns c =
     record {
       slots = record_written t.lines t.resources c.args.resource _ 6 c.args.run _ (λ e. omega arith) (omega arith) c.requires c.empty_price.ensures.changed;
       was = c.empty_price.ensures.was ∙ ap is_some (sym (record_read t.lines t.resources 6 c.args.resource c.args.run (λ e. omega arith) c.requires));
-      ranged = λ fit. record_stays t.lines t.resources c.args.resource _ fit c.empty_price.ensures.changed.kept;
+      ranged = λ fit. record_stays t.lines t.resources c.args.resource _ fit c.empty_price.ensures.kept;
     }

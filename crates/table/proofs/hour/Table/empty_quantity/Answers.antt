@@ -12,5 +12,5 @@ returns c =
     record {
       slots = record_written t.lines t.resources c.args.resource _ 5 c.args.product _ (λ e. omega arith) (omega arith) c.requires c.empty_quantity.ensures.changed;
       was = c.empty_quantity.ensures.was ∙ ap is_some (sym (record_read t.lines t.resources 5 c.args.resource c.args.product (λ e. omega arith) c.requires));
-      ranged = λ fit. record_stays t.lines t.resources c.args.resource _ fit c.empty_quantity.ensures.changed.kept;
+      ranged = λ fit. record_stays t.lines t.resources c.args.resource _ fit c.empty_quantity.ensures.kept;
     }

@@ -12,5 +12,5 @@ returns c =
     record {
       slots = record_written t.lines t.resources c.args.resource _ 4 c.args.parameter _ (λ e. omega arith) (omega arith) c.requires c.empty_reference.ensures.changed;
       was = c.empty_reference.ensures.was ∙ ap is_some (sym (record_read t.lines t.resources 4 c.args.resource c.args.parameter (λ e. omega arith) c.requires));
-      ranged = λ fit. record_stays t.lines t.resources c.args.resource _ fit c.empty_reference.ensures.changed.kept;
+      ranged = λ fit. record_stays t.lines t.resources c.args.resource _ fit c.empty_reference.ensures.kept;
     }

@@ -12,5 +12,5 @@ returns c =
     record {
       slots = record_written t.lines t.resources c.args.resource _ 7 0 _ (λ e. omega arith) (omega arith) c.requires c.empty_remark.ensures.changed;
       was = c.empty_remark.ensures.was ∙ ap is_some (sym (record_read t.lines t.resources 7 c.args.resource 0 (λ e. omega arith) c.requires));
-      ranged = λ fit. record_stays t.lines t.resources c.args.resource _ fit c.empty_remark.ensures.changed.kept;
+      ranged = λ fit. record_stays t.lines t.resources c.args.resource _ fit c.empty_remark.ensures.kept;
     }

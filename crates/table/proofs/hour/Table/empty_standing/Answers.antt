@@ -12,5 +12,5 @@ returns c =
     record {
       slots = record_written t.lines t.resources c.args.resource _ 2 0 _ (λ e. omega arith) (omega arith) c.requires c.empty_standing.ensures.changed;
       was = c.empty_standing.ensures.was ∙ ap is_some (sym (record_read t.lines t.resources 2 c.args.resource 0 (λ e. omega arith) c.requires));
-      ranged = λ fit. record_stays t.lines t.resources c.args.resource _ fit c.empty_standing.ensures.changed.kept;
+      ranged = λ fit. record_stays t.lines t.resources c.args.resource _ fit c.empty_standing.ensures.kept;
     }

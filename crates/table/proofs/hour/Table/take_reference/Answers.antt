@@ -8,7 +8,7 @@ pub returns-clause-slots : goal.returns-clause-slots
 unfolding slots_of
 returns-clause-slots c =
     let there = exists c.args.resource c.args.parameter 32 8 c.requires.slot in
-    record_written c.args.self.now.lines c.args.self.now.resources c.args.resource _ 4 c.args.parameter _ (λ e. omega arith) (omega arith) c.requires.slot c.take_reference.ensures
+    record_written c.args.self.now.lines c.args.self.now.resources c.args.resource _ 4 c.args.parameter _ (λ e. omega arith) (omega arith) c.requires.slot c.take_reference.ensures.changed
 
 pub returns-clause-ranged : goal.returns-clause-ranged
 returns-clause-ranged c fit = record_stays _ _ c.args.resource _ fit c.take_reference.ensures.kept
