@@ -1,10 +1,15 @@
-use Rattle.std.proofs.Common.{◌≡◌, [], ap, ◌∙◌, arith, rules}
+use Rattle.std.proofs.Common.{◌≡◌, ℕ, ◌<◌, ◌^◌, List, ap, ◌∙◌, rules}
 use Rattle.bodies.specs.Numbers.{word, word_bytes}
-use Rattle.bodies.proofs.Bytes.{word_back}
+use Rattle.bodies.proofs.Bytes.{word_back_alone}
 use Rattle.bodies.proofs.numbers.word_bytes.Goals as goal
 
-pub returns : goal.returns
+pub returns-clause-value : goal.returns-clause-value
 unfolding word_bytes
-returns c =
-    let value : c.to_be_bytes.result ≡ word_bytes c.args.n = search rules in
-    record { value = value; back = ap word value ∙ word_back c.args.n [] (omega arith) }
+returns-clause-value c = search rules
+
+back : (bytes : List ℕ) (n : ℕ) → n < 2 ^ 32 → bytes ≡ word_bytes n → word bytes ≡ n
+back bytes n small is = ap word is ∙ word_back_alone n small
+
+pub returns-clause-back : goal.returns-clause-back
+unfolding word_bytes
+returns-clause-back c = back _ c.args.n (search rules) (search rules)

@@ -11,7 +11,7 @@ use Rattle.book.proofs.book.Book.post.Goals as goal
 pub returns-in-Err : goal.returns-in-Err
 returns-in-Err g c =
     let l = ledger_of c.args.self.now.table c.args.self.now.is_open in
-    let r = refused l (posted c.args.bytes.now) _ (first_told c.in-Err.fault _ _ _ c.refusal.ensures c.in-Err.ensures) in
+    let r = refused l (posted c.args.bytes.now) _ (first_told _ _ _ _ c.refusal.ensures c.in-Err.ensures) in
     record { answer = r.answer; ledger = r.stays; bounds = refl; ranged = λ fit. fit }
 
 pub take-requires : goal.take-requires
