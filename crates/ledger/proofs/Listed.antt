@@ -1,5 +1,5 @@
 -- Lines of the listing from equal verdicts and findings.
-use Rattle.std.proofs.Common.{◌≡◌, ℕ, Bool, true, false, cond, List, [], ◌∷◌, is_some, Some, None, decimal, refl, ap, append_assoc, arith}
+use Rattle.std.proofs.Common.{◌≡◌, ℕ, Bool, true, false, cond, [], ◌∷◌, is_some, Some, None, decimal, refl, ap, append_assoc, arith}
 use mathlib.Core.Path.{fun_ext}
 use Rattle.std.specs.Option.{option_map}
 use Rattle.vocabulary.specs.declared.parameter.Parameter.{Parameter}
@@ -13,7 +13,7 @@ use Rattle.answers.specs.Lines.{verdicts_of, sum, line_of as answer_line}
 use Rattle.bodies.specs.Bodies.{standing_of}
 use Rattle.ledger.specs.Slots.{Slots}
 use Rattle.ledger.specs.Views.{joined_below}
-use Rattle.ledger.specs.Readings.{slot, lines, own}
+use Rattle.ledger.specs.Readings.{lines, own}
 use Rattle.ledger.specs.Listing.{line_of, line_if, listing_line, EqualListings, NeighboursLines}
 use Rattle.ledger.proofs.Agreeing.{equal_meanings}
 use Rattle.ledger.proofs.Neighbouring.{neighbours}

@@ -1,5 +1,5 @@
 -- Numbers in their ranges, which stay so where another is written.
-use Rattle.std.proofs.Common.{◌≡◌, ℕ, zero, suc, Bool, true, List, [], ◌∷◌, length, get_or, set, replicate, ℤ, pos, Some, None, Option, refl, ◌∙◌, arith, length-set}
+use Rattle.std.proofs.Common.{◌≡◌, ℕ, zero, suc, Bool, true, List, [], ◌∷◌, get_or, set, replicate, ℤ, pos, Some, None, Option, refl, ◌∙◌, arith, length-set}
 use lib.Signed.{le_z}
 use Rattle.std.proofs.lemmas.Int.{ints}
 use Rattle.std.proofs.lemmas.Bool.{and_parts, and_from}

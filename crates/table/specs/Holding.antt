@@ -1,5 +1,5 @@
 -- The body that each slot of a record holds, and a record of which one slot changed.
-use Rattle.std.specs.Prelude.{◌≡◌, ℕ, ◌-◌, true, cond, List, Some, None, Option, ◌==◌, ◌≢◌, nat_lt, slice_index_or}
+use Rattle.std.specs.Prelude.{◌≡◌, ℕ, ◌-◌, cond, List, Some, None, Option, ◌==◌, ◌≢◌, nat_lt, slice_index_or}
 use Rattle.std.specs.Option.{option_map}
 use Rattle.curves.specs.Rows.{curve_in}
 use Rattle.vocabulary.specs.declared.resource.Values.{Values}
