@@ -15,6 +15,7 @@ use Rattle.table.specs.Ranges.{AllRanged}
 use Rattle.table.specs.Tables.{slots_of}
 use Rattle.table.proofs.Saying.{lines_said, owns_said}
 use Rattle.files.specs.Placing.{Written}
+use Rattle.book.specs.Rows.{listing_rows}
 use Rattle.listing.specs.Wholes.{line_at}
 use Rattle.listing.specs.Wholes as wholes
 
@@ -28,12 +29,21 @@ joined_same (suc n) f g same = λ j. joined_same n f g (λ k h. same k (omega ar
 pub redrawn : {place : ℕ} {file file' before after : List ℕ} {r : Result ℕ Refusal} → file ≡ file' → Written place file before after r → Written place file' before after r
 redrawn {place} {file} {file'} {before} {after} {r} e w = subst (λ f. Written place f before after r) e w
 
+module _ (m : Meanings) (t : Table) where
+  row_line : ℕ → List ℕ
+  row_line r = line_if r (listed m (lines_of t.lines) (owns_of t.resources) r)
+
+  pub rows_drawn : (answers : List (Option Answer)) → ((k : ℕ) → k < 32 → get_or answers k None ≡ listed m (lines_of t.lines) (owns_of t.resources) k)
+      → wholes.lines_of answers ≡ listing_rows m t
+  unfolding row_line
+  rows_drawn answers made = joined_same 32 (line_at answers) row_line (λ k h. ap (line_if k) (made k h))
+
 module _ (m : Meanings) (t : Table) (fit : AllRanged t) where
-  pub lines_drawn : (answers : List (Option Answer)) → ((k : ℕ) → k < 32 → get_or answers k None ≡ listed m (lines_of t.lines) (owns_of t.resources) k)
-      → wholes.lines_of answers ≡ listing m (slots_of t)
-  lines_drawn answers made =
-      joined_same 32 (line_at answers) (listing_line m (slots_of t))
-      (λ k h. ap (line_if k) (made k h ∙ (λ j. listed m (sym (lines_said t fit) j) (sym (owns_said t fit) j) k)) ∙ sym (listing_line_said m (slots_of t) k))
+  pub rows_listed : listing_rows m t ≡ listing m (slots_of t)
+  unfolding row_line
+  rows_listed =
+      joined_same 32 (row_line m t) (listing_line m (slots_of t))
+      (λ k h. ap (line_if k) (λ j. listed m (sym (lines_said t fit) j) (sym (owns_said t fit) j) k) ∙ sym (listing_line_said m (slots_of t) k))
 
   pub answered : (r : ℕ) → answer m (lines_of t.lines) (owns_of t.resources) r ≡ answer m (lines (slots_of t)) (own (slots_of t)) r
   answered r = λ j. answer m (sym (lines_said t fit) j) (sym (owns_said t fit) j) r

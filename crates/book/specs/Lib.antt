@@ -1,3 +1,4 @@
 -- The statements on books.
 pub mod Ledgers
 pub mod Questions
+pub mod Rows

@@ -10,9 +10,11 @@ ghost use Rattle.ledger.specs.Mitigation.{mitigated_file};
 ghost use Rattle.ledger.specs.Slots.{entry_file};
 ghost use Rattle.table.specs.Ranges.{AllRanged};
 ghost use Rattle.table.specs.Tables.{slots_of};
-ghost use Rattle.files.specs.Placing.{Written};
+ghost use Rattle.files.specs.Placing.{file_of, Written};
+ghost use Rattle.offers.specs.Rows.{mitigated_rows};
 ghost use Rattle.book.specs.Ledgers.{ledger_of};
 ghost use Rattle.book.specs.Questions.{Asked};
+ghost use Rattle.book.specs.Rows.{listing_rows, AskedRows};
 
 use crate::book::Book;
 use answers::answer::Answer;
@@ -125,7 +127,8 @@ impl<C: BoundBelow, A: BoundBelow, I: BoundBelow, Q: BoundAbove> Book<C, A, I, Q
 
     // Writes the mitigated file, offers as the rules leave them, from a place of the buffer on, and says how long it is.
     pub fn write_mitigated(&self, out: &mut [u8], place: usize) -> Result<usize, Refusal>
-        ensures { AllRanged self.now.table → Written place (mitigated_file (meant_by C.Bound.meaning A.Bound.meaning I.Bound.meaning Q.Bound.meaning self.now.places) (slots_of self.now.table)) out.old out.new result }
+        ensures rows { Written place (file_of (mitigated_rows (meant_by C.Bound.meaning A.Bound.meaning I.Bound.meaning Q.Bound.meaning self.now.places) self.now.table)) out.old out.new result }
+        ensures written { AllRanged self.now.table → Written place (mitigated_file (meant_by C.Bound.meaning A.Bound.meaning I.Bound.meaning Q.Bound.meaning self.now.places) (slots_of self.now.table)) out.old out.new result }
     {
         let offers = Mitigated {
             table: &self.table,
@@ -136,6 +139,7 @@ impl<C: BoundBelow, A: BoundBelow, I: BoundBelow, Q: BoundAbove> Book<C, A, I, Q
 
     // Writes the listing from a place of the buffer on, and says how long it is.
     pub fn write_listing(&self, out: &mut [u8], place: usize) -> Result<usize, Refusal>
+        ensures rows { Written place (listing_rows (meant_by C.Bound.meaning A.Bound.meaning I.Bound.meaning Q.Bound.meaning self.now.places) self.now.table) out.old out.new result }
         ensures written { AllRanged self.now.table → Written place (listing_of (meant_by C.Bound.meaning A.Bound.meaning I.Bound.meaning Q.Bound.meaning self.now.places) (slots_of self.now.table)) out.old out.new result }
         ensures short { AllRanged self.now.table → length (listing_of (meant_by C.Bound.meaning A.Bound.meaning I.Bound.meaning Q.Bound.meaning self.now.places) (slots_of self.now.table)) ≤ 1696 }
     {
@@ -145,7 +149,8 @@ impl<C: BoundBelow, A: BoundBelow, I: BoundBelow, Q: BoundAbove> Book<C, A, I, Q
 
     // Fills the record with the verdicts on a resource and its charges.
     pub fn question(&self, resource: u8, answer: &mut Answer) -> Result<(), Refusal>
-        ensures { AllRanged self.now.table → Asked (meant_by C.Bound.meaning A.Bound.meaning I.Bound.meaning Q.Bound.meaning self.now.places) (slots_of self.now.table) resource answer.old answer.new result }
+        ensures rows { AskedRows (meant_by C.Bound.meaning A.Bound.meaning I.Bound.meaning Q.Bound.meaning self.now.places) self.now.table resource answer.old answer.new result }
+        ensures asked { AllRanged self.now.table → Asked (meant_by C.Bound.meaning A.Bound.meaning I.Bound.meaning Q.Bound.meaning self.now.places) (slots_of self.now.table) resource answer.old answer.new result }
     {
         if resource >= 32 {
             return Err(refusal(Fault::Slot));

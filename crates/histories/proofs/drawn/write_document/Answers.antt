@@ -22,4 +22,4 @@ returns-in-Mitigated g c =
     let s = slots_of c.args.book.now.table in
     let is = ap (λ d. drawn d m s) (sym c.in-Mitigated.is) in
     let keeps = lawful g.C.Bound.meaning g.A.Bound.meaning g.I.Bound.meaning g.Q.Bound.meaning g.C.Bound.harmless g.A.Bound.harmless g.Q.Bound.harmless g.met.C.Bound.spares g.met.A.Bound.spares g.met.Q.Bound.spares c.args.book.now.places in
-    record { written = redrawn is (c.write_mitigated.ensures c.requires.ranged); most = subst (λ f. length f ≤ 31319) is (bounded (mitigated m s) (mitigates m keeps s c.requires.well).well_formed) }
+    record { written = redrawn is (c.write_mitigated.ensures.written c.requires.ranged); most = subst (λ f. length f ≤ 31319) is (bounded (mitigated m s) (mitigates m keeps s c.requires.well).well_formed) }

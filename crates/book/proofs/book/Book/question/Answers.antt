@@ -9,12 +9,17 @@ use Rattle.book.proofs.Drawing.{answered}
 use Rattle.book.proofs.book.Book.question.Goals as goal
 
 pub returns : goal.returns
-returns g c fit =
+returns g c =
     let m = meant_by g.C.Bound.meaning g.A.Bound.meaning g.I.Bound.meaning g.Q.Bound.meaning c.args.self.now.places in
     let s = slots_of c.args.self.now.table in
-    let is = c.question.ensures ∙ answered m c.args.self.now.table fit c.args.resource in
+    let t = c.args.self.now.table in
     record {
-      found = λ _. (refl, is);
-      without_standing = λ _ none. is ∙ unfound m (lines s) (own s) c.args.resource (ap (option_map standing_of) none);
-      absent = λ far. absurd (omega arith);
+      rows = record { found = λ _. (refl, c.question.ensures); absent = λ far. absurd (omega arith) };
+      asked = λ fit.
+          let is = c.question.ensures ∙ answered m t fit c.args.resource in
+          record {
+            found = λ _. (refl, is);
+            without_standing = λ _ none. is ∙ unfound m (lines s) (own s) c.args.resource (ap (option_map standing_of) none);
+            absent = λ far. absurd (omega arith);
+          };
     }

@@ -13,7 +13,10 @@ use Rattle.book.proofs.book.Book.write_mitigated.Goals as goal
 
 pub returns : goal.returns
 unfolding file_of mitigated
-returns g c fit =
+returns g c =
     let m = meant_by g.C.Bound.meaning g.A.Bound.meaning g.I.Bound.meaning g.Q.Bound.meaning c.args.self.now.places in
     let t = c.args.self.now.table in
-    redrawn (ap (entry_file kinds) (same_slots (mitigated_rows m t) (mitigated_held m (slots_of t)) (rows_said m t fit))) c.write_file.ensures
+    record {
+      rows = c.write_file.ensures;
+      written = λ fit. redrawn (ap (entry_file kinds) (same_slots (mitigated_rows m t) (mitigated_held m (slots_of t)) (rows_said m t fit))) c.write_file.ensures;
+    }
