@@ -3,16 +3,16 @@ ghost use Rattle.std.specs.Prelude.{◌≡◌, ◌^◌, ◌<◌};
 ghost use Rattle.vocabulary.specs.Readings.{own_of, lines_of};
 ghost use Rattle.charges.specs.Tables.{owns_of};
 ghost use Rattle.charges.specs.Groups.{SharesOf, Small};
-ghost use Rattle.charges.specs.Findings.{held_back, overpriced as overpriced_of, meant_by, charge as charge_of, finding as finding_of};
+ghost use Rattle.charges.specs.Findings.{held_back, overpriced as overpriced_of, charge as charge_of, finding as finding_of};
 
 use crate::charge::{shortage_charge, width_charge};
 use crate::group::entity_quantity;
+use crate::rules::Rules;
 use crate::share::Share;
-use bounds::bound::{Bound, BoundAbove, BoundBelow};
+use bounds::bound::Bound;
 use kinds::curve_kind::Curves;
 use verdicts::conduct::curve_conduct;
 use verdicts::impact::{impact, quantity_impact};
-use verdicts::places::Places;
 use vocabulary::condition::Condition;
 use vocabulary::lines::Terms;
 use vocabulary::product::Product;
@@ -74,8 +74,8 @@ fn charge<C: Bound>(
 
 impl Finding {
     // What is found of a product of resource i, from the shares of the table.
-    pub fn of<C: BoundBelow, A: BoundBelow, I: BoundBelow, Q: BoundAbove>(
-        places: &Places<C, A, I, Q>,
+    pub fn of<R: Rules>(
+        rules: &R,
         lines: &[Option<Terms>; 50],
         table: &[Resource; 32],
         shares: &[Share; 32],
@@ -83,11 +83,12 @@ impl Finding {
         i: usize,
     ) -> Finding
         requires index { i < 32 }
-        requires made { SharesOf (Q.Bound.meaning places.now.quantities.bound) (lines_of lines.now) (owns_of table.now) product shares.now }
+        requires made { SharesOf (R.meanings rules.now).quantities (lines_of lines.now) (owns_of table.now) product shares.now }
         requires small { Small shares.now }
-        ensures value { result ≡ finding_of (meant_by C.Bound.meaning A.Bound.meaning I.Bound.meaning Q.Bound.meaning places.now) (lines_of lines.now) (owns_of table.now) product i }
+        ensures value { result ≡ finding_of (R.meanings rules.now) (lines_of lines.now) (owns_of table.now) product i }
         ensures small { result.charge < 2 ^ 60 }
     {
+        let places = rules.places();
         let resource = &table[i];
         let verdicts = Verdicts {
             conduct: curve_conduct(&places.curves, lines, resource, product),

@@ -4,4 +4,5 @@
 pub mod charge;
 pub mod finding;
 pub mod group;
+pub mod rules;
 pub mod share;
