@@ -1,6 +1,5 @@
 // The texts that an answer is made of.
 ghost use Rattle.std.specs.Prelude.{◌≡◌, IfOk, Err, string_bytes};
-ghost use Rattle.charges.specs.Findings.{meant_by};
 ghost use Rattle.entries.specs.Files.{told};
 ghost use Rattle.ledger.specs.Listing.{listing as listing_of};
 ghost use Rattle.table.specs.Ranges.{AllRanged};
@@ -9,7 +8,7 @@ ghost use Rattle.answering.specs.Texts.{refused as refused_of};
 
 use bodies::fault::Refusal;
 use book::book::Book;
-use bounds::bound::{BoundAbove, BoundBelow};
+use charges::rules::Rules;
 use std::alloc::{AllocError, Global};
 
 // The line that tells a refusal.
@@ -22,12 +21,12 @@ pub fn refused(heap: Global, refusal: Refusal) -> Result<String, AllocError>
 }
 
 // A book's listing.
-pub(crate) fn listing<C: BoundBelow, A: BoundBelow, I: BoundBelow, Q: BoundAbove>(
+pub(crate) fn listing<R: Rules>(
     heap: Global,
-    book: &Book<C, A, I, Q>,
+    book: &Book<R>,
 ) -> Result<Vec<u8>, AllocError>
     requires { AllRanged book.now.table }
-    ensures { IfOk result (λ v. v.items ≡ listing_of (meant_by C.Bound.meaning A.Bound.meaning I.Bound.meaning Q.Bound.meaning book.now.places) (slots_of book.now.table)) }
+    ensures { IfOk result (λ v. v.items ≡ listing_of (R.meanings book.now.rules) (slots_of book.now.table)) }
 {
     let mut bytes = [0; 1696];
     let Ok(length) = book.write_listing(&mut bytes, 0) else {

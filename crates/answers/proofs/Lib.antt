@@ -1,3 +1,3 @@
-pub mod Assembled
+pub mod Fours
 pub mod Listing
 pub mod Unfound

@@ -12,13 +12,10 @@ use vocabulary::lines::Terms;
 use vocabulary::product::Product;
 use vocabulary::resource::Resource;
 
-// The shares of all resources, product by product.
+// The shares of all resources, product by product, which rise by number.
 #[derive(Clone, Copy)]
 pub struct Shares {
-    pub energy: [Share; 32],
-    pub spinning: [Share; 32],
-    pub non_spinning: [Share; 32],
-    pub thirty_minute: [Share; 32],
+    pub by_product: [[Share; 32]; 4],
 }
 
 impl Shares {
@@ -30,10 +27,12 @@ impl Shares {
         ensures { Shared (Q.Bound.meaning quantities.now.bound) (lines_of lines.now) (owns_of table.now) result }
     {
         Shares {
-            energy: shares(quantities, lines, table, Product::Energy),
-            spinning: shares(quantities, lines, table, Product::Spinning),
-            non_spinning: shares(quantities, lines, table, Product::NonSpinning),
-            thirty_minute: shares(quantities, lines, table, Product::ThirtyMinute),
+            by_product: [
+                shares(quantities, lines, table, Product::Energy),
+                shares(quantities, lines, table, Product::Spinning),
+                shares(quantities, lines, table, Product::NonSpinning),
+                shares(quantities, lines, table, Product::ThirtyMinute),
+            ],
         }
     }
 }

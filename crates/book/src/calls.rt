@@ -1,6 +1,5 @@
 // Calls on a book: each answers what the plain ledger's fault is, and leaves the ledger's next state.
 ghost use Rattle.std.specs.Prelude.{◌≡◌, ◌≤◌, length};
-ghost use Rattle.charges.specs.Findings.{meant_by};
 ghost use Rattle.entries.specs.Entries.{head};
 ghost use Rattle.entries.specs.Files.{told};
 ghost use Rattle.entries.specs.Table.{kinds};
@@ -21,7 +20,7 @@ use answers::answer::Answer;
 use answers::listed::listed;
 use answers::question::question;
 use bodies::fault::{Fault, Refusal};
-use bounds::bound::{BoundAbove, BoundBelow};
+use charges::rules::Rules;
 use entries::reader::{check_file, read_posted};
 use entries::slots::head_fault;
 use files::file::write_file;
@@ -29,7 +28,6 @@ use listing::whole::write_listing;
 use offers::mitigated::Mitigated;
 use table::fill::fill;
 use table::hour::Table;
-use verdicts::places::Places;
 
 fn refusal(fault: Fault) -> Refusal
     ensures { result ≡ record { fault = fault; place = 0 } }
@@ -37,17 +35,17 @@ fn refusal(fault: Fault) -> Refusal
     Refusal { fault, place: 0 }
 }
 
-impl<C: BoundBelow, A: BoundBelow, I: BoundBelow, Q: BoundAbove> Book<C, A, I, Q> {
+impl<R: Rules> Book<R> {
     // An empty book over the given bounds.
-    pub fn open(places: Places<C, A, I, Q>) -> Book<C, A, I, Q>
+    pub fn open(rules: R) -> Book<R>
         ensures ledger { ledger_of result.table result.is_open ≡ no_calls kinds }
-        ensures bounds { result.places ≡ places }
+        ensures bounds { result.rules ≡ rules }
         ensures ranged { AllRanged result.table }
     {
         Book {
             table: Table::empty(),
             is_open: true,
-            places,
+            rules,
         }
     }
 
@@ -55,7 +53,7 @@ impl<C: BoundBelow, A: BoundBelow, I: BoundBelow, Q: BoundAbove> Book<C, A, I, Q
     pub fn close(&mut self) -> Result<(), Refusal>
         ensures answer { told result ≡ fault_of kinds (ledger_of self.old.table self.old.is_open) closed }
         ensures ledger { ledger_of self.new.table self.new.is_open ≡ step kinds (ledger_of self.old.table self.old.is_open) closed }
-        ensures bounds { self.new.places ≡ self.old.places }
+        ensures bounds { self.new.rules ≡ self.old.rules }
         ensures ranged { AllRanged self.old.table → AllRanged self.new.table }
     {
         if !self.is_open {
@@ -69,7 +67,7 @@ impl<C: BoundBelow, A: BoundBelow, I: BoundBelow, Q: BoundAbove> Book<C, A, I, Q
     pub fn post(&mut self, bytes: &[u8]) -> Result<(), Refusal>
         ensures answer { told result ≡ fault_of kinds (ledger_of self.old.table self.old.is_open) (posted bytes.now) }
         ensures ledger { ledger_of self.new.table self.new.is_open ≡ step kinds (ledger_of self.old.table self.old.is_open) (posted bytes.now) }
-        ensures bounds { self.new.places ≡ self.old.places }
+        ensures bounds { self.new.rules ≡ self.old.rules }
         ensures ranged { AllRanged self.old.table → AllRanged self.new.table }
     {
         let entry = match read_posted(bytes) {
@@ -87,7 +85,7 @@ impl<C: BoundBelow, A: BoundBelow, I: BoundBelow, Q: BoundAbove> Book<C, A, I, Q
     pub fn load(&mut self, file: &[u8]) -> Result<(), Refusal>
         ensures answer { told result ≡ fault_of kinds (ledger_of self.old.table self.old.is_open) (loaded file.now) }
         ensures ledger { ledger_of self.new.table self.new.is_open ≡ step kinds (ledger_of self.old.table self.old.is_open) (loaded file.now) }
-        ensures bounds { self.new.places ≡ self.old.places }
+        ensures bounds { self.new.rules ≡ self.old.rules }
         ensures ranged { AllRanged self.old.table → AllRanged self.new.table }
     {
         check_file(file)?;
@@ -102,7 +100,7 @@ impl<C: BoundBelow, A: BoundBelow, I: BoundBelow, Q: BoundAbove> Book<C, A, I, Q
     pub fn clear(&mut self, kind: u8, first: u8, sub: u8) -> Result<(), Refusal>
         ensures answer { told result ≡ fault_of kinds (ledger_of self.old.table self.old.is_open) (cleared (head kind first sub)) }
         ensures ledger { ledger_of self.new.table self.new.is_open ≡ step kinds (ledger_of self.old.table self.old.is_open) (cleared (head kind first sub)) }
-        ensures bounds { self.new.places ≡ self.old.places }
+        ensures bounds { self.new.rules ≡ self.old.rules }
         ensures ranged { AllRanged self.old.table → AllRanged self.new.table }
     {
         if let Some(fault) = head_fault(kind, first, sub) {
@@ -127,36 +125,36 @@ impl<C: BoundBelow, A: BoundBelow, I: BoundBelow, Q: BoundAbove> Book<C, A, I, Q
 
     // Writes the mitigated file, offers as the rules leave them, from a place of the buffer on, and says how long it is.
     pub fn write_mitigated(&self, out: &mut [u8], place: usize) -> Result<usize, Refusal>
-        ensures rows { Written place (file_of (mitigated_rows (meant_by C.Bound.meaning A.Bound.meaning I.Bound.meaning Q.Bound.meaning self.now.places) self.now.table)) out.old out.new result }
-        ensures written { AllRanged self.now.table → Written place (mitigated_file (meant_by C.Bound.meaning A.Bound.meaning I.Bound.meaning Q.Bound.meaning self.now.places) (slots_of self.now.table)) out.old out.new result }
+        ensures rows { Written place (file_of (mitigated_rows (R.meanings self.now.rules) self.now.table)) out.old out.new result }
+        ensures written { AllRanged self.now.table → Written place (mitigated_file (R.meanings self.now.rules) (slots_of self.now.table)) out.old out.new result }
     {
         let offers = Mitigated {
             table: &self.table,
-            places: &self.places,
+            rules: &self.rules,
         };
         write_file(&offers, out, place)
     }
 
     // Writes the listing from a place of the buffer on, and says how long it is.
     pub fn write_listing(&self, out: &mut [u8], place: usize) -> Result<usize, Refusal>
-        ensures rows { Written place (listing_rows (meant_by C.Bound.meaning A.Bound.meaning I.Bound.meaning Q.Bound.meaning self.now.places) self.now.table) out.old out.new result }
-        ensures written { AllRanged self.now.table → Written place (listing_of (meant_by C.Bound.meaning A.Bound.meaning I.Bound.meaning Q.Bound.meaning self.now.places) (slots_of self.now.table)) out.old out.new result }
-        ensures short { AllRanged self.now.table → length (listing_of (meant_by C.Bound.meaning A.Bound.meaning I.Bound.meaning Q.Bound.meaning self.now.places) (slots_of self.now.table)) ≤ 1696 }
+        ensures rows { Written place (listing_rows (R.meanings self.now.rules) self.now.table) out.old out.new result }
+        ensures written { AllRanged self.now.table → Written place (listing_of (R.meanings self.now.rules) (slots_of self.now.table)) out.old out.new result }
+        ensures short { AllRanged self.now.table → length (listing_of (R.meanings self.now.rules) (slots_of self.now.table)) ≤ 1696 }
     {
-        let answers = listed(&self.places, &self.table.lines, &self.table.resources);
+        let answers = listed(&self.rules, &self.table.lines, &self.table.resources);
         write_listing(&answers, out, place)
     }
 
     // Fills the record with the verdicts on a resource and its charges.
     pub fn question(&self, resource: u8, answer: &mut Answer) -> Result<(), Refusal>
-        ensures rows { AskedRows (meant_by C.Bound.meaning A.Bound.meaning I.Bound.meaning Q.Bound.meaning self.now.places) self.now.table resource answer.old answer.new result }
-        ensures asked { AllRanged self.now.table → Asked (meant_by C.Bound.meaning A.Bound.meaning I.Bound.meaning Q.Bound.meaning self.now.places) (slots_of self.now.table) resource answer.old answer.new result }
+        ensures rows { AskedRows (R.meanings self.now.rules) self.now.table resource answer.old answer.new result }
+        ensures asked { AllRanged self.now.table → Asked (R.meanings self.now.rules) (slots_of self.now.table) resource answer.old answer.new result }
     {
         if resource >= 32 {
             return Err(refusal(Fault::Slot));
         }
         *answer = question(
-            &self.places,
+            &self.rules,
             &self.table.lines,
             &self.table.resources,
             resource as usize,

@@ -3,3 +3,4 @@ pub mod Tables
 pub mod Groups
 pub mod Charges
 pub mod Findings
+pub mod Lawful

@@ -20,10 +20,7 @@ use vocabulary::run::Run;
 fn paid(price: Option<i32>) -> u32
     ensures { result ≡ paid_of price }
 {
-    match price {
-        Some(cents) if cents > 0 => cents as u32,
-        _ => 0,
-    }
+    price.map_or(0, |cents| cents.max(0) as u32)
 }
 
 fn charged(factor: u32, quantity: u32, price: u32) -> u64
@@ -58,16 +55,12 @@ fn widths<C: Bound>(
     ensures value { result ≡ widths_of (C.Bound.meaning curves.now.bound) line (option_map steps_of reference) (option_map steps_of offer) }
     ensures small { result ≤ 100000 }
 {
-    let Some(line) = line else {
-        return 0;
-    };
-    let Some(reference) = reference else {
-        return 0;
-    };
-    let Some(offer) = offer else {
-        return 0;
-    };
-    curves.failed_widths(&line, &reference, &offer)
+    match (line, reference, offer) {
+        (Some(line), Some(reference), Some(offer)) => {
+            curves.failed_widths(&line, &reference, &offer)
+        }
+        _ => 0,
+    }
 }
 
 // The charge on the steps of an offer that fail.

@@ -37,8 +37,8 @@ pub fn shares<Q: Bound>(
         offered: 0,
         reference: 0,
     }; 32];
-    for i in 0..32 {
-        shares[i] = Share::of(quantities, lines, &table[i], product);
+    for (i, resource) in table.iter().enumerate() {
+        shares[i] = Share::of(quantities, lines, resource, product);
     }
     shares
 }
@@ -51,9 +51,9 @@ fn added_up(shares: &[Share; 32], group: Group) -> Sums
 {
     let mut offered = 0;
     let mut reference = 0;
-    for i in 0..32 {
-        offered += group.brought(shares[i].group, shares[i].offered);
-        reference += group.brought(shares[i].group, shares[i].reference);
+    for share in shares {
+        offered += group.brought(share.group, share.offered);
+        reference += group.brought(share.group, share.reference);
     }
     Sums { offered, reference }
 }

@@ -13,7 +13,7 @@ use vocabulary::resource::Resource;
 use vocabulary::verdict::Verdict;
 
 // The resources of one entity under one condition.
-#[derive(Clone, Copy)]
+#[derive(Clone, Copy, PartialEq, Eq)]
 pub struct Group {
     pub entity: u8,
     pub condition: Condition,
@@ -49,10 +49,7 @@ impl Group {
     fn is(self, other: Option<Group>) -> bool
         ensures { result ≡ is_group self other }
     {
-        match other {
-            Some(group) => group.entity == self.entity && group.condition == self.condition,
-            None => false,
-        }
+        other == Some(self)
     }
 
     // What a member brings, and another does not.

@@ -10,7 +10,8 @@ use Rattle.ledger.specs.Slots.{Slots, entry_file, WellFormed}
 use Rattle.ledger.specs.Ledger.{Act, loaded, Ledger, empty, fault, step, ledger}
 use Rattle.ledger.specs.Listing.{listing, listing_line}
 use Rattle.ledger.specs.Mitigation.{mitigated, mitigated_file}
-use Rattle.ledger.specs.Promises.{Lawful, ShareNone}
+use Rattle.charges.specs.Lawful.{Lawful}
+use Rattle.ledger.specs.Promises.{ShareNone}
 use Rattle.ledger.proofs.Laws.{reached, reloads, injective}
 use Rattle.ledger.proofs.Agreeing.{same}
 use Rattle.ledger.proofs.Listed.{neighbours_lines}

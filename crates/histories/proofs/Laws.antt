@@ -5,8 +5,7 @@ use Rattle.bounds.specs.declared.side.Side.{Side}
 use Rattle.bounds.specs.Meanings.{Meaning, Harmless}
 use Rattle.kinds.specs.Passing.{harmless_self}
 use Rattle.verdicts.specs.declared.places.Places.{Places}
-use Rattle.charges.specs.Findings.{meant_by}
-use Rattle.ledger.specs.Promises.{Lawful}
+use Rattle.charges.specs.Lawful.{Lawful}
 
 -- a bound's law, as its interface has it
 abbrev pub Spares : {B : Type 0} → Side → (B → Meaning) → Type 0

@@ -8,8 +8,7 @@ use crate::drawn::entry_file;
 use crate::file::File;
 use crate::replay::replay;
 use book::book::Book;
-use bounds::bound::{BoundAbove, BoundBelow};
-use verdicts::places::Places;
+use charges::rules::Rules;
 
 // An entry file, whether a new book takes it, and that book's entry file.
 #[derive(Clone, Copy)]
@@ -20,21 +19,12 @@ pub struct Rewritten {
 }
 
 // Loads the entry file of a replayed list into a new book, and writes it again.
-pub fn write_again<
-    C: BoundBelow + Drop,
-    A: BoundBelow + Drop,
-    I: BoundBelow + Drop,
-    Q: BoundAbove + Drop,
-    D: BoundBelow + Drop,
-    B: BoundBelow + Drop,
-    J: BoundBelow + Drop,
-    R: BoundAbove + Drop,
->(places: Places<C, A, I, Q>, calls: &[Call], new_places: Places<D, B, J, R>) -> Rewritten
+pub fn write_again<R: Rules + Drop, S: Rules + Drop>(rules: R, calls: &[Call], new_rules: S) -> Rewritten
     ensures { WrittenAgain (acts_of calls.now) result }
 {
-    let one = replay(places, calls);
+    let one = replay(rules, calls);
     let before = entry_file(&one);
-    let mut other = Book::open(new_places);
+    let mut other = Book::open(new_rules);
     let taken = other.load(before.part()).is_ok();
     let after = entry_file(&other);
     Rewritten {

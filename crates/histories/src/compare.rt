@@ -1,6 +1,5 @@
 // Two lists of calls, side by side.
 ghost use Rattle.std.specs.Prelude.{◌≡◌};
-ghost use Rattle.charges.specs.Findings.{meant_by};
 ghost use Rattle.histories.specs.Acts.{acts_of};
 ghost use Rattle.histories.specs.Histories.{Compared, ComparedWhole};
 
@@ -11,8 +10,7 @@ use crate::drawn::{Files, file, same_bytes};
 use crate::file::File;
 use crate::replay::replay;
 use book::book::Book;
-use bounds::bound::{BoundAbove, BoundBelow};
-use verdicts::places::Places;
+use charges::rules::Rules;
 
 // The entry files of two books, and whether the two hours hold the same; the books' other files, whether a third
 // new book takes the first's mitigated file, and the mitigated file of that book.
@@ -31,33 +29,24 @@ pub struct Comparison {
 
 // Replays two lists of calls on two new books, each over bounds of its own, draws and compares their files, and
 // loads the first's mitigated file into a new book over the same bounds.
-pub fn compare<
-    C: BoundBelow + Drop,
-    A: BoundBelow + Drop,
-    I: BoundBelow + Drop,
-    Q: BoundAbove + Drop,
-    D: BoundBelow + Drop,
-    B: BoundBelow + Drop,
-    J: BoundBelow + Drop,
-    R: BoundAbove + Drop,
->(
-    first_places: Places<C, A, I, Q>,
+pub fn compare<R: Rules + Drop, S: Rules + Drop>(
+    first_rules: R,
     first: &[Call],
-    second_places: Places<D, B, J, R>,
+    second_rules: S,
     second: &[Call],
 ) -> Comparison
     ensures compared { Compared (acts_of first.now) (acts_of second.now) result }
-    ensures whole { ComparedWhole (meant_by C.Bound.meaning A.Bound.meaning I.Bound.meaning Q.Bound.meaning first_places) (meant_by D.Bound.meaning B.Bound.meaning J.Bound.meaning R.Bound.meaning second_places) (acts_of first.now) (acts_of second.now) result }
+    ensures whole { ComparedWhole (R.meanings first_rules) (S.meanings second_rules) (acts_of first.now) (acts_of second.now) result }
 {
-    let one = replay(first_places, first);
-    let two = replay(second_places, second);
+    let one = replay(first_rules, first);
+    let two = replay(second_rules, second);
     let of_first = Files::of(&one);
     let of_second = Files::of(&two);
     let left = of_first.entries;
     let right = of_second.entries;
     let alike = same_bytes(&left, &right);
-    let Book { places, .. } = one;
-    let mut new = Book::open(places);
+    let Book { rules, .. } = one;
+    let mut new = Book::open(rules);
     let taken = new.load(of_first.mitigated.part()).is_ok();
     Comparison {
         first: left,

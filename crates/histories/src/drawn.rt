@@ -1,6 +1,5 @@
 // A book's files.
 ghost use Rattle.std.specs.Prelude.{◌≡◌, ◌≤◌, length, Decides};
-ghost use Rattle.charges.specs.Findings.{meant_by};
 ghost use Rattle.entries.specs.Table.{kinds};
 ghost use Rattle.ledger.specs.Slots.{WellFormed, entry_file as entry_file_of};
 ghost use Rattle.table.specs.Ranges.{AllRanged};
@@ -12,7 +11,7 @@ use crate::document::Document;
 pub use crate::file::File;
 use bodies::fault::Refusal;
 use book::book::Book;
-use bounds::bound::{BoundAbove, BoundBelow};
+use charges::rules::Rules;
 
 // The three files of one book.
 #[derive(Clone, Copy)]
@@ -23,15 +22,15 @@ pub struct Files {
 }
 
 // Writes a file of a book at the front of what is lent.
-fn write_document<C: BoundBelow, A: BoundBelow, I: BoundBelow, Q: BoundAbove>(
-    book: &Book<C, A, I, Q>,
+fn write_document<R: Rules>(
+    book: &Book<R>,
     document: Document,
     out: &mut [u8],
 ) -> Result<usize, Refusal>
     requires well { WellFormed kinds (slots_of book.now.table) }
     requires ranged { AllRanged book.now.table }
-    ensures written { Written 0 (drawn_of document (meant_by C.Bound.meaning A.Bound.meaning I.Bound.meaning Q.Bound.meaning book.now.places) (slots_of book.now.table)) out.old out.new result }
-    ensures most { length (drawn_of document (meant_by C.Bound.meaning A.Bound.meaning I.Bound.meaning Q.Bound.meaning book.now.places) (slots_of book.now.table)) ≤ 31319 }
+    ensures written { Written 0 (drawn_of document (R.meanings book.now.rules) (slots_of book.now.table)) out.old out.new result }
+    ensures most { length (drawn_of document (R.meanings book.now.rules) (slots_of book.now.table)) ≤ 31319 }
 {
     match document {
         Document::Entries => book.write_entries(out, 0),
@@ -41,13 +40,13 @@ fn write_document<C: BoundBelow, A: BoundBelow, I: BoundBelow, Q: BoundAbove>(
 }
 
 // A file of a book that some list of calls leads to.
-pub fn file<C: BoundBelow, A: BoundBelow, I: BoundBelow, Q: BoundAbove>(
-    book: &Book<C, A, I, Q>,
+pub fn file<R: Rules>(
+    book: &Book<R>,
     document: Document,
 ) -> File
     requires well { WellFormed kinds (slots_of book.now.table) }
     requires ranged { AllRanged book.now.table }
-    ensures { Holds (drawn_of document (meant_by C.Bound.meaning A.Bound.meaning I.Bound.meaning Q.Bound.meaning book.now.places) (slots_of book.now.table)) result }
+    ensures { Holds (drawn_of document (R.meanings book.now.rules) (slots_of book.now.table)) result }
 {
     let mut drawn = File {
         bytes: [0; 31_319],
@@ -60,8 +59,8 @@ pub fn file<C: BoundBelow, A: BoundBelow, I: BoundBelow, Q: BoundAbove>(
 }
 
 // The entry file of a book that some list of calls leads to.
-pub fn entry_file<C: BoundBelow, A: BoundBelow, I: BoundBelow, Q: BoundAbove>(
-    book: &Book<C, A, I, Q>,
+pub fn entry_file<R: Rules>(
+    book: &Book<R>,
 ) -> File
     requires { WellFormed kinds (slots_of book.now.table) }
     ensures { Holds (entry_file_of kinds (slots_of book.now.table)) result }
@@ -81,12 +80,12 @@ pub fn same_bytes(one: &File, other: &File) -> bool
 
 impl Files {
     // The three files of a book that some list of calls leads to.
-    pub fn of<C: BoundBelow, A: BoundBelow, I: BoundBelow, Q: BoundAbove>(
-        book: &Book<C, A, I, Q>,
+    pub fn of<R: Rules>(
+        book: &Book<R>,
     ) -> Files
         requires well { WellFormed kinds (slots_of book.now.table) }
         requires ranged { AllRanged book.now.table }
-        ensures { DrawnFrom (meant_by C.Bound.meaning A.Bound.meaning I.Bound.meaning Q.Bound.meaning book.now.places) (slots_of book.now.table) result.entries result.mitigated result.listing }
+        ensures { DrawnFrom (R.meanings book.now.rules) (slots_of book.now.table) result.entries result.mitigated result.listing }
     {
         Files {
             entries: entry_file(book),

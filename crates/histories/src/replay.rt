@@ -8,15 +8,14 @@ ghost use Rattle.histories.specs.Acts.{act_of, acts_of};
 
 use crate::call::Call;
 use book::book::Book;
-use bounds::bound::{BoundAbove, BoundBelow};
-use verdicts::places::Places;
+use charges::rules::Rules;
 
-fn obey<C: BoundBelow, A: BoundBelow, I: BoundBelow, Q: BoundAbove>(
-    book: &mut Book<C, A, I, Q>,
+fn obey<R: Rules>(
+    book: &mut Book<R>,
     call: Call,
 )
     ensures ledger { ledger_of book.new.table book.new.is_open ≡ step kinds (ledger_of book.old.table book.old.is_open) (act_of call.entry) }
-    ensures bounds { book.new.places ≡ book.old.places }
+    ensures bounds { book.new.rules ≡ book.old.rules }
     ensures ranged { AllRanged book.old.table → AllRanged book.new.table }
 {
     let _ = match call {
@@ -28,15 +27,15 @@ fn obey<C: BoundBelow, A: BoundBelow, I: BoundBelow, Q: BoundAbove>(
 }
 
 // A new book over the bounds after all the calls.
-pub fn replay<C: BoundBelow, A: BoundBelow, I: BoundBelow, Q: BoundAbove>(
-    places: Places<C, A, I, Q>,
+pub fn replay<R: Rules>(
+    rules: R,
     calls: &[Call],
-) -> Book<C, A, I, Q>
+) -> Book<R>
     ensures ledger { ledger_of result.table result.is_open ≡ ledger kinds (acts_of calls.now) }
-    ensures bounds { result.places ≡ places }
+    ensures bounds { result.rules ≡ rules }
     ensures ranged { AllRanged result.table }
 {
-    let mut book = Book::open(places);
+    let mut book = Book::open(rules);
     for call in calls {
         obey(&mut book, *call);
     }

@@ -4,7 +4,7 @@ ghost use Rattle.std.specs.Prelude.{◌+◌, ◌*◌, ◌^◌, ◌<◌, ◌≤�
 use crate::script::{call_at, obey};
 use bodies::fault::Refusal;
 use book::book::Book;
-use bounds::bound::{BoundAbove, BoundBelow};
+use charges::rules::Rules;
 use writers::bytes::write_bytes;
 
 // The number of a refusal, 0 for none, and the low four bytes of its place.
@@ -25,8 +25,8 @@ fn answer_bytes(answer: Result<(), Refusal>) -> [u8; 5] {
 }
 
 // Makes the calls of a script in turn, and writes what each is told, five bytes a call, as far as there is room.
-pub fn write_answers<C: BoundBelow, A: BoundBelow, I: BoundBelow, Q: BoundAbove>(
-    book: &mut Book<C, A, I, Q>,
+pub fn write_answers<R: Rules>(
+    book: &mut Book<R>,
     script: &[u8],
     out: &mut [u8],
 ) {

@@ -4,7 +4,7 @@ ghost use Rattle.std.specs.Prelude.{◌≡◌, ◌+◌, ◌≤◌, length};
 use answers::answer::Answer;
 use bodies::fault::{Fault, Refusal};
 use book::book::Book;
-use bounds::bound::{BoundAbove, BoundBelow};
+use charges::rules::Rules;
 use vocabulary::verdict::Verdict;
 
 // A letter for each verdict, from `at` on, and where they end.
@@ -44,8 +44,8 @@ fn answer_bytes(answer: &Answer) -> [u8; 57] {
 }
 
 // The answer on a resource, or zeros where there is no such resource.
-fn question_bytes<C: BoundBelow, A: BoundBelow, I: BoundBelow, Q: BoundAbove>(
-    book: &Book<C, A, I, Q>,
+fn question_bytes<R: Rules>(
+    book: &Book<R>,
     resource: u8,
 ) -> [u8; 57] {
     let mut answer = Answer {
@@ -63,8 +63,8 @@ fn question_bytes<C: BoundBelow, A: BoundBelow, I: BoundBelow, Q: BoundAbove>(
 }
 
 // Writes the answers on resources 0 to 32, 57 bytes each, from a place of the buffer on.
-pub fn write_questions<C: BoundBelow, A: BoundBelow, I: BoundBelow, Q: BoundAbove>(
-    book: &Book<C, A, I, Q>,
+pub fn write_questions<R: Rules>(
+    book: &Book<R>,
     out: &mut [u8],
     place: usize,
 ) -> Result<usize, Refusal> {

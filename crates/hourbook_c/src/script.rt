@@ -4,7 +4,7 @@ ghost use Rattle.std.specs.Prelude.{◌≡◌, ◌+◌, ◌<◌, ◌≤◌, leng
 use bodies::fault::{Fault, Refusal};
 use bodies::numbers::read_word;
 use book::book::Book;
-use bounds::bound::{BoundAbove, BoundBelow};
+use charges::rules::Rules;
 use histories::call::Call;
 
 // Where the part ends whose length stands in the four bytes from `at` on.
@@ -74,8 +74,8 @@ pub fn count(script: &[u8]) -> Result<usize, Fault>
 }
 
 // Makes one call on a book.
-pub fn obey<C: BoundBelow, A: BoundBelow, I: BoundBelow, Q: BoundAbove>(
-    book: &mut Book<C, A, I, Q>,
+pub fn obey<R: Rules>(
+    book: &mut Book<R>,
     call: Call,
 ) -> Result<(), Refusal> {
     match call {
@@ -87,8 +87,8 @@ pub fn obey<C: BoundBelow, A: BoundBelow, I: BoundBelow, Q: BoundAbove>(
 }
 
 // Makes the calls of a script in turn, refused or obeyed; ends at the first that is no call.
-pub fn replay<C: BoundBelow, A: BoundBelow, I: BoundBelow, Q: BoundAbove>(
-    book: &mut Book<C, A, I, Q>,
+pub fn replay<R: Rules>(
+    book: &mut Book<R>,
     script: &[u8],
 ) -> Result<(), Fault>
     ensures { length script.now ≡ 0 → book.new ≡ book.old }

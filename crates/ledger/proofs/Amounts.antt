@@ -7,7 +7,7 @@ use Rattle.bounds.specs.Meanings.{Meaning}
 use Rattle.bodies.specs.Numbers.{number, word_bytes, number_bytes}
 use Rattle.bodies.specs.Bodies.{unless_in_range, between, most_amount, amount_fault}
 use Rattle.bodies.proofs.Bytes.{number_back_alone}
-use Rattle.ledger.specs.Promises.{PassesReference}
+use Rattle.charges.specs.Lawful.{PassesReference}
 use Rattle.ledger.proofs.Bodies.{sized_none, inside}
 use Rattle.ledger.proofs.Anew.{Form, Substitutes}
 

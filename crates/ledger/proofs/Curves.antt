@@ -12,7 +12,7 @@ use Rattle.kinds.specs.Passing.{substitute_passes}
 use Rattle.bodies.specs.Curves.{curve_steps, curve_bytes, in_step_range, all_in_range, steps_fault}
 use Rattle.bodies.specs.Bodies.{most_steps, curve_fault}
 use Rattle.bodies.proofs.Backs.{length_curve, curve_back}
-use Rattle.ledger.specs.Promises.{PassesReference}
+use Rattle.charges.specs.Lawful.{PassesReference}
 use Rattle.ledger.proofs.Bodies.{Fair, unfaulted, curve_parts}
 use Rattle.ledger.proofs.Anew.{Form, Substitutes}
 

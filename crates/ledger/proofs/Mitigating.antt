@@ -35,7 +35,8 @@ use Rattle.ledger.specs.Readings.{held, slot, line_in, lines, levels, own}
 use Rattle.vocabulary.specs.Orders.{parameter_at, product_of}
 use Rattle.answers.specs.Answers.{conduct}
 use Rattle.ledger.specs.Mitigation.{substituted, mitigated_body, mitigated_held, mitigated, mitigated_file}
-use Rattle.ledger.specs.Promises.{PassesReference, Lawful, OfferMitigated, Mitigates}
+use Rattle.charges.specs.Lawful.{PassesReference, Lawful}
+use Rattle.ledger.specs.Promises.{OfferMitigated, Mitigates}
 use Rattle.ledger.proofs.Laws.{reloads}
 use Rattle.ledger.proofs.Holdings.{held_nowhere, held_from, same_slots, held_fits, from_fits}
 use Rattle.ledger.proofs.Anew.{Form, contained, chosen, anew, Substitutes, anew_none, anew_fits, anew_differs, settled}

@@ -22,21 +22,13 @@ use Rattle.ledger.specs.Slots.{Slots, WellFormed}
 use Rattle.ledger.specs.Ledger.{Act, posted, cleared, loaded, closed, empty, fault, step, ledger}
 use Rattle.ledger.specs.Views.{Holding, slots_from}
 use Rattle.ledger.specs.Readings.{held, slot, lines, own}
+use Rattle.charges.specs.Lawful.{Lawful}
 use Rattle.ledger.specs.Mitigation.{substituted, mitigated, mitigated_file}
 
 -- what is held is read: from slots made of holdings, and every line of well-formed slots
 pub record Read : Type 0 where
   pub held : (f : Holding) (h : Head) → head_fault kinds h ≡ 0 → held (slots_from f) h ≡ f h
   pub lines : (s : Slots) → WellFormed kinds s → (c : Condition) (t : Test) → is_some (lines s c t) ≡ is_some (slot s 1 (condition_number c) (test_number t))
-
--- a value equal to its reference passes
-abbrev pub PassesReference : Meaning → Type 0
-PassesReference meaning = (l : Line) (r : ℤ) → meaning l r r ≡ true
-
-pub record Lawful (m : Meanings) : Type 0 where
-  pub curves : PassesReference m.curves
-  pub amounts : PassesReference m.amounts
-  pub quantities : PassesReference m.quantities
 
 -- a parameter's offer before and after mitigation
 pub record OfferMitigated (m : Meanings) (s : Slots) (r : ℕ) (p : Parameter) : Type 0 where

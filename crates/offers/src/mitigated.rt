@@ -4,7 +4,6 @@ ghost use Rattle.std.specs.Option.{option_map};
 ghost use Rattle.curves.specs.Curves.{steps_of};
 ghost use Rattle.vocabulary.specs.Orders.{parameter_at};
 ghost use Rattle.vocabulary.specs.Readings.{lines_of, own_of};
-ghost use Rattle.charges.specs.Findings.{meant_by};
 ghost use Rattle.bodies.specs.Curves.{curve_bytes};
 ghost use Rattle.entries.specs.Entries.{head};
 ghost use Rattle.ledger.specs.Mitigation.{mitigated_bytes};
@@ -12,23 +11,22 @@ ghost use Rattle.ledger.specs.Slots.{entry_of};
 ghost use Rattle.files.specs.Fillings.{slot_bytes, Sound};
 ghost use Rattle.offers.specs.Rows.{mitigated_rows};
 
-use bounds::bound::{BoundAbove, BoundBelow};
+use charges::rules::Rules;
 use curves::curve::Curve;
 use files::filled::Filled;
 use files::hour::number_slot;
 use files::slots::Slots;
 use table::hour::Table;
 use verdicts::mitigation::{mitigated_amount, mitigated_curve};
-use verdicts::places::Places;
 use vocabulary::lines::Terms;
 use vocabulary::parameter::Parameter;
 use vocabulary::resource::Resource;
 
 // The table, and the bounds that its offers are held to.
 #[derive(Clone, Copy)]
-pub struct Mitigated<'a, C, A, I, Q> {
+pub struct Mitigated<'a, R> {
     pub table: &'a Table,
-    pub places: &'a Places<C, A, I, Q>,
+    pub rules: &'a R,
 }
 
 // A curve of an offer.
@@ -48,17 +46,18 @@ fn curve_slot(resource: u8, parameter: u8, curve: Option<Curve>) -> Option<Fille
 }
 
 // A parameter of a resource's offer, as the rules leave it.
-fn offer_slot<C: BoundBelow, A: BoundBelow, I: BoundBelow, Q: BoundAbove>(
-    places: &Places<C, A, I, Q>,
+fn offer_slot<R: Rules>(
+    rules: &R,
     lines: &[Option<Terms>; 50],
     one: &Resource,
     resource: u8,
     sub: u8,
 ) -> Option<Filled>
     requires { sub < 8 }
-    ensures bytes { slot_bytes result ≡ entry_of (head 3 resource sub) (mitigated_bytes (meant_by C.Bound.meaning A.Bound.meaning I.Bound.meaning Q.Bound.meaning places.now) (lines_of lines.now) (own_of one.now) (parameter_at sub)) }
+    ensures bytes { slot_bytes result ≡ entry_of (head 3 resource sub) (mitigated_bytes (R.meanings rules.now) (lines_of lines.now) (own_of one.now) (parameter_at sub)) }
     ensures sound { Sound result }
 {
+    let places = rules.places();
     match Parameter::at(sub) {
         Parameter::Curve(product) => curve_slot(
             resource,
@@ -81,14 +80,13 @@ fn offer_slot<C: BoundBelow, A: BoundBelow, I: BoundBelow, Q: BoundAbove>(
     }
 }
 
-impl<'a, C: BoundBelow, A: BoundBelow, I: BoundBelow, Q: BoundAbove> Slots
-    for Mitigated<'a, C, A, I, Q> {
-    ghost holding = { λ s. mitigated_rows (meant_by C.Bound.meaning A.Bound.meaning I.Bound.meaning Q.Bound.meaning s.places.now) s.table.now };
+impl<'a, R: Rules> Slots for Mitigated<'a, R> {
+    ghost holding = { λ s. mitigated_rows (R.meanings s.rules.now) s.table.now };
 
     fn slot(&self, kind: u8, first: u8, sub: u8) -> Option<Filled> {
         match kind {
             3 => offer_slot(
-                self.places,
+                self.rules,
                 &self.table.lines,
                 &self.table.resources[first as usize],
                 first,

@@ -1,6 +1,5 @@
 // One line of a script, obeyed on a book and answered.
 ghost use Rattle.std.specs.Prelude.{◌≡◌, IfOk, string_bytes, OnOk};
-ghost use Rattle.charges.specs.Findings.{meant_by};
 ghost use Rattle.entries.specs.Table.{kinds};
 ghost use Rattle.ledger.specs.Slots.{WellFormed};
 ghost use Rattle.table.specs.Ranges.{AllRanged};
@@ -15,7 +14,7 @@ ghost use Rattle.transcripts.specs.Transcripts.{after, reply, after_line, reply_
 use crate::texts::{answer_text, hex_line, no_call, told_text};
 use answers::answer::Answer;
 use book::book::Book;
-use bounds::bound::{BoundAbove, BoundBelow};
+use charges::rules::Rules;
 use histories::document::Document;
 use histories::drawn::file;
 use scripts::command::{Command, read_command};
@@ -32,13 +31,13 @@ fn decoded(heap: Global, hex: &[u8]) -> Result<Vec<u8>, AllocError>
 }
 
 // The verdicts on a resource and its charges.
-fn found<C: BoundBelow, A: BoundBelow, I: BoundBelow, Q: BoundAbove>(
+fn found<R: Rules>(
     heap: Global,
-    book: &Book<C, A, I, Q>,
+    book: &Book<R>,
     resource: u8,
 ) -> Result<String, AllocError>
     requires { AllRanged book.now.table }
-    ensures { IfOk result (λ s. string_bytes s ≡ found_text (meant_by C.Bound.meaning A.Bound.meaning I.Bound.meaning Q.Bound.meaning book.now.places) (slots_of book.now.table) resource) }
+    ensures { IfOk result (λ s. string_bytes s ≡ found_text (R.meanings book.now.rules) (slots_of book.now.table) resource) }
 {
     let mut answer = Answer {
         conduct: [Verdict::NotTested; 8],
@@ -55,29 +54,29 @@ fn found<C: BoundBelow, A: BoundBelow, I: BoundBelow, Q: BoundAbove>(
 }
 
 // A file of a book in hex.
-fn drawn<C: BoundBelow, A: BoundBelow, I: BoundBelow, Q: BoundAbove>(
+fn drawn<R: Rules>(
     heap: Global,
-    book: &Book<C, A, I, Q>,
+    book: &Book<R>,
     document: Document,
 ) -> Result<String, AllocError>
     requires well { WellFormed kinds (slots_of book.now.table) }
     requires ranged { AllRanged book.now.table }
-    ensures { IfOk result (λ s. string_bytes s ≡ hex_line_of (drawn_of document (meant_by C.Bound.meaning A.Bound.meaning I.Bound.meaning Q.Bound.meaning book.now.places) (slots_of book.now.table))) }
+    ensures { IfOk result (λ s. string_bytes s ≡ hex_line_of (drawn_of document (R.meanings book.now.rules) (slots_of book.now.table))) }
 {
     hex_line(heap, file(book, document).part())
 }
 
 // Obeys a command on a book that some list of calls leads to; without memory the book may be left as it was.
-pub fn obey<C: BoundBelow, A: BoundBelow, I: BoundBelow, Q: BoundAbove>(
+pub fn obey<R: Rules>(
     heap: Global,
-    book: &mut Book<C, A, I, Q>,
+    book: &mut Book<R>,
     command: Command,
 ) -> Result<String, AllocError>
     requires well { WellFormed kinds (slots_of book.old.table) }
     requires ranged { AllRanged book.old.table }
-    ensures text { IfOk result (λ s. string_bytes s ≡ reply (meant_by C.Bound.meaning A.Bound.meaning I.Bound.meaning Q.Bound.meaning book.old.places) (ledger_of book.old.table book.old.is_open) (order_of command.entry)) }
+    ensures text { IfOk result (λ s. string_bytes s ≡ reply (R.meanings book.old.rules) (ledger_of book.old.table book.old.is_open) (order_of command.entry)) }
     ensures ledger { OnOk result (ledger_of book.new.table book.new.is_open ≡ after (ledger_of book.old.table book.old.is_open) (order_of command.entry)) }
-    ensures bounds { book.new.places ≡ book.old.places }
+    ensures bounds { book.new.rules ≡ book.old.rules }
     ensures ranged { AllRanged book.new.table }
 {
     match command {
@@ -99,17 +98,17 @@ pub fn obey<C: BoundBelow, A: BoundBelow, I: BoundBelow, Q: BoundAbove>(
 }
 
 // Obeys the line of this number, or says that it is no call.
-pub(crate) fn obey_line<C: BoundBelow, A: BoundBelow, I: BoundBelow, Q: BoundAbove>(
+pub(crate) fn obey_line<R: Rules>(
     heap: Global,
-    book: &mut Book<C, A, I, Q>,
+    book: &mut Book<R>,
     line: &[u8],
     number: usize,
 ) -> Result<String, AllocError>
     requires well { WellFormed kinds (slots_of book.old.table) }
     requires ranged { AllRanged book.old.table }
-    ensures text { IfOk result (λ s. string_bytes s ≡ reply_line (meant_by C.Bound.meaning A.Bound.meaning I.Bound.meaning Q.Bound.meaning book.old.places) (ledger_of book.old.table book.old.is_open) number (command_of line.now)) }
+    ensures text { IfOk result (λ s. string_bytes s ≡ reply_line (R.meanings book.old.rules) (ledger_of book.old.table book.old.is_open) number (command_of line.now)) }
     ensures ledger { OnOk result (ledger_of book.new.table book.new.is_open ≡ after_line (ledger_of book.old.table book.old.is_open) (command_of line.now)) }
-    ensures bounds { book.new.places ≡ book.old.places }
+    ensures bounds { book.new.rules ≡ book.old.rules }
     ensures ranged { AllRanged book.new.table }
 {
     match read_command(line) {

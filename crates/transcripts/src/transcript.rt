@@ -1,6 +1,5 @@
 // A whole script obeyed on a new book.
 ghost use Rattle.std.specs.Prelude.{◌≡◌, IfOk, string_bytes};
-ghost use Rattle.charges.specs.Findings.{meant_by};
 ghost use Rattle.entries.specs.Table.{kinds};
 ghost use Rattle.ledger.specs.Ledger.{empty as no_calls};
 ghost use Rattle.scripts.specs.Texts.{lines_of};
@@ -9,24 +8,19 @@ ghost use Rattle.transcripts.specs.Transcripts.{transcript as transcript_of};
 
 use crate::obeying::obey_line;
 use book::book::Book;
-use bounds::bound::{BoundAbove, BoundBelow};
+use charges::rules::Rules;
 use bounds::ceiling::Ceiling;
 use bounds::exemption::Exemption;
 use bounds::shortfall::Shortfall;
 use scripts::texts::split_line;
 use std::alloc::{AllocError, Global};
-use verdicts::places::{Places, standard};
+use verdicts::places::standard;
 
 // The answers over any bounds, a line for each line.
-pub fn transcript_over<
-    C: BoundBelow + Drop,
-    A: BoundBelow + Drop,
-    I: BoundBelow + Drop,
-    Q: BoundAbove + Drop,
->(places: Places<C, A, I, Q>, heap: Global, script: &[u8]) -> Result<String, AllocError>
-    ensures { IfOk result (λ s. string_bytes s ≡ transcript_of (meant_by C.Bound.meaning A.Bound.meaning I.Bound.meaning Q.Bound.meaning places) (no_calls kinds) 0 (lines_of script.now)) }
+pub fn transcript_over<R: Rules + Drop>(rules: R, heap: Global, script: &[u8]) -> Result<String, AllocError>
+    ensures { IfOk result (λ s. string_bytes s ≡ transcript_of (R.meanings rules) (no_calls kinds) 0 (lines_of script.now)) }
 {
-    let mut book = Book::open(places);
+    let mut book = Book::open(rules);
     let mut text = String::new(heap);
     let mut rest = script;
     let mut number = 0;

@@ -1,18 +1,8 @@
-use Rattle.vocabulary.specs.Readings.{lines_of}
-use Rattle.charges.specs.Findings.{meant_by}
-use Rattle.charges.specs.Tables.{owns_of}
-use Rattle.answers.proofs.Assembled.{answer_made, charges_small}
+use Rattle.std.proofs.Common.{refl}
+use Rattle.charges.specs.Findings.{finding}
+use Rattle.answers.specs.Answers.{answer}
 use Rattle.answers.proofs.question.answer.Goals as goal
 
-pub returns : goal.returns
-returns g c =
-    let m = meant_by g.C.Bound.meaning g.A.Bound.meaning g.I.Bound.meaning g.Q.Bound.meaning c.args.places.now in
-    let e = c.finding-energy in
-    let s = c.finding-spinning in
-    let n = c.finding-non_spinning in
-    let t = c.finding-thirty_minute in
-    record {
-      value = answer_made m (lines_of c.args.lines.now) (owns_of c.args.table.now) c.args.i _ e.result s.result n.result t.result _ c.assembled.ensures
-          e.ensures.value s.ensures.value n.ensures.value t.ensures.value c.amount_conducts-amounts.ensures;
-      small = charges_small _ e.result s.result n.result t.result _ c.assembled.ensures e.ensures.small s.ensures.small n.ensures.small t.ensures.small;
-    }
+pub returns-clause-value : goal.returns-clause-value
+unfolding answer finding
+returns-clause-value g c = rw (c.assembled.ensures, c.finding.ensures.value, c.finding-2.ensures.value, c.finding-3.ensures.value, c.finding-4.ensures.value, c.amount_conducts.ensures) refl

@@ -4,33 +4,33 @@ use Rattle.charges.proofs.Totals.{total_none, total_more}
 use Rattle.charges.proofs.Shares.{offered_small, reference_small, sums_small}
 use Rattle.charges.proofs.group.added_up.Goals as goal
 
-pub loop-i-init : goal.loop-i-init
-loop-i-init c = (sym (total_none _), sym (total_none _))
+pub loop-share-init : goal.loop-share-init
+loop-share-init c = (sym (total_none _), sym (total_none _))
 
 pub overflow_add-offered : goal.overflow_add-offered
 overflow_add-offered c =
     let fits = offered_small c.args.shares.now c.requires c.args.group in
-    let sum = sums_small _ c.loop-i.i _ (omega arith) fits c.loop-i.invariant.0 in
-    omega (arith, fits c.loop-i.i c.loop-i-test.true, c.brought-offered.ensures)
+    let sum = sums_small _ c.loop-share.share-index _ (omega arith) fits c.loop-share.invariant.0 in
+    omega (arith, fits c.loop-share.share-index c.loop-share-test.true, c.brought-offered.ensures)
 
 pub overflow_add-reference : goal.overflow_add-reference
 overflow_add-reference c =
     let fits = reference_small c.args.shares.now c.requires c.args.group in
-    let sum = sums_small _ c.loop-i.i _ (omega arith) fits c.loop-i.invariant.1 in
-    omega (arith, fits c.loop-i.i c.loop-i-test.true, c.brought-reference.ensures)
+    let sum = sums_small _ c.loop-share.share-index _ (omega arith) fits c.loop-share.invariant.1 in
+    omega (arith, fits c.loop-share.share-index c.loop-share-test.true, c.brought-reference.ensures)
 
-pub loop-i-preserved : goal.loop-i-preserved
-loop-i-preserved c = (
-  total_more (share_offered c.args.shares.now c.args.group) c.loop-i.i _ _ c.loop-i.invariant.0 c.brought-offered.ensures,
-  total_more (share_reference c.args.shares.now c.args.group) c.loop-i.i _ _ c.loop-i.invariant.1 c.brought-reference.ensures,
+pub loop-share-preserved : goal.loop-share-preserved
+loop-share-preserved c = (
+  total_more (share_offered c.args.shares.now c.args.group) c.loop-share.share-index _ _ c.loop-share.invariant.0 c.brought-offered.ensures,
+  total_more (share_reference c.args.shares.now c.args.group) c.loop-share.share-index _ _ c.loop-share.invariant.1 c.brought-reference.ensures,
 )
 
 pub returns : goal.returns
 returns c =
     let xs = c.args.shares.now in
-    let all : c.loop-i.i ≡ 32 = omega arith in
-    let offered = subst (λ n. c.loop-i.offered ≡ total (share_offered xs c.args.group) n) all c.loop-i.invariant.0 in
-    let reference = subst (λ n. c.loop-i.reference ≡ total (share_reference xs c.args.group) n) all c.loop-i.invariant.1 in
+    let all : c.loop-share.share-index ≡ 32 = omega arith in
+    let offered = subst (λ n. c.loop-share.offered ≡ total (share_offered xs c.args.group) n) all c.loop-share.invariant.0 in
+    let reference = subst (λ n. c.loop-share.reference ≡ total (share_reference xs c.args.group) n) all c.loop-share.invariant.1 in
     record {
       offered = offered;
       reference = reference;

@@ -1,12 +1,10 @@
 use Rattle.std.proofs.Common.{sym, ap, ◌∙◌, subst}
-use Rattle.charges.specs.Findings.{meant_by}
 use Rattle.entries.specs.Table.{kinds}
 use Rattle.ledger.specs.Mitigation.{mitigated}
 use Rattle.ledger.specs.Slots.{WellFormed}
 use Rattle.histories.specs.Acts.{acts_of}
 use Rattle.histories.specs.Histories.{slots_after}
 use Rattle.histories.proofs.Comparing.{well, files_are, reloaded, taken, mitigated_fits, stays, compared, whole}
-use Rattle.histories.proofs.Laws.{lawful}
 use Rattle.histories.proofs.compare.compare.Goals as goal
 
 pub of-of_first-requires : goal.of-of_first-requires
@@ -17,9 +15,9 @@ of-of_second-requires g c = record { well = well _ _ (acts_of c.args.second.now)
 
 pub file-requires : goal.file-requires
 file-requires g c =
-    let meant = meant_by g.C.Bound.meaning g.A.Bound.meaning g.I.Bound.meaning g.Q.Bound.meaning in
-    let m = meant c.args.first_places in
-    let keeps = lawful g.C.Bound.meaning g.A.Bound.meaning g.I.Bound.meaning g.Q.Bound.meaning g.C.Bound.harmless g.A.Bound.harmless g.Q.Bound.harmless g.met.C.Bound.spares g.met.A.Bound.spares g.met.Q.Bound.spares c.args.first_places in
+    let meant = g.R.Rules.meanings in
+    let m = meant c.args.first_rules in
+    let keeps = g.met.R.Rules.lawful c.args.first_rules in
     let first = acts_of c.args.first.now in
     let left = files_are _ _ first c.replay-one.ensures.ledger m _ (ap meant c.replay-one.ensures.bounds) _ _ _ c.of-of_first.ensures in
     let fits = mitigated_fits m keeps first in
@@ -30,12 +28,12 @@ file-requires g c =
 
 pub returns : goal.returns
 returns g c =
-    let meant = meant_by g.C.Bound.meaning g.A.Bound.meaning g.I.Bound.meaning g.Q.Bound.meaning in
-    let meant-second = meant_by g.D.Bound.meaning g.B.Bound.meaning g.J.Bound.meaning g.R.Bound.meaning in
-    let m = meant c.args.first_places in
-    let n = meant-second c.args.second_places in
-    let keeps = lawful g.C.Bound.meaning g.A.Bound.meaning g.I.Bound.meaning g.Q.Bound.meaning g.C.Bound.harmless g.A.Bound.harmless g.Q.Bound.harmless g.met.C.Bound.spares g.met.A.Bound.spares g.met.Q.Bound.spares c.args.first_places in
-    let keeps-second = lawful g.D.Bound.meaning g.B.Bound.meaning g.J.Bound.meaning g.R.Bound.meaning g.D.Bound.harmless g.B.Bound.harmless g.R.Bound.harmless g.met.D.Bound.spares g.met.B.Bound.spares g.met.R.Bound.spares c.args.second_places in
+    let meant = g.R.Rules.meanings in
+    let meant-second = g.S.Rules.meanings in
+    let m = meant c.args.first_rules in
+    let n = meant-second c.args.second_rules in
+    let keeps = g.met.R.Rules.lawful c.args.first_rules in
+    let keeps-second = g.met.S.Rules.lawful c.args.second_rules in
     let first = acts_of c.args.first.now in
     let second = acts_of c.args.second.now in
     let left = files_are _ _ first c.replay-one.ensures.ledger m _ (ap meant c.replay-one.ensures.bounds) _ _ _ c.of-of_first.ensures in

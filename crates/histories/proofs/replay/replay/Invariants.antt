@@ -10,6 +10,6 @@ use Rattle.histories.proofs.replay.replay.Given as goal
 abbrev pub invariant-loop-call : goal.invariant-loop-call
 invariant-loop-call g l = record {
   left : run kinds (ledger_of l.book.table l.book.is_open) (acts_of (drop l.call-index l.calls)) ≡ ledger kinds (acts_of l.calls);
-  bounds : l.book.places ≡ l.initial.book.places;
+  bounds : l.book.rules ≡ l.initial.book.rules;
   ranged : AllRanged l.book.table;
 }

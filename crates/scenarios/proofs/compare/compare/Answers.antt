@@ -1,5 +1,4 @@
 use Rattle.std.proofs.Common.{Some, None, Ok, Err, sym, ap, ◌∙◌}
-use Rattle.charges.specs.Findings.{meant_by}
 use Rattle.scenarios.proofs.Loading.{answered, fits, differs_alike}
 use Rattle.scenarios.proofs.compare.compare.Goals as goal
 
@@ -14,12 +13,12 @@ first_difference-requires g c = record {
 
 pub returns-in-Some : goal.returns-in-Some
 returns-in-Some g c =
-    let meant = meant_by g.C.Bound.meaning g.A.Bound.meaning g.I.Bound.meaning g.Q.Bound.meaning in
+    let meant = g.R.Rules.meanings in
     differs_alike c.args.expected.now _ c.open-book.ensures.ledger _ _ c.load.ensures.ledger _ _ (ap meant (c.load.ensures.bounds ∙ c.open-book.ensures.bounds)) (Some c.in-Some.document) c.in-Some.ensures
 
 pub returns : goal.returns
 returns g c =
-    let meant = meant_by g.C.Bound.meaning g.A.Bound.meaning g.I.Bound.meaning g.Q.Bound.meaning in (
+    let meant = g.R.Rules.meanings in (
       sym (answered c.args.expected.now _ c.open-book.ensures.ledger (Ok c.in_default.field-0) c.in_default.ensures.answer),
       differs_alike c.args.expected.now _ c.open-book.ensures.ledger _ _ c.load.ensures.ledger _ _ (ap meant (c.load.ensures.bounds ∙ c.open-book.ensures.bounds)) None c.in-None.ensures,
     )

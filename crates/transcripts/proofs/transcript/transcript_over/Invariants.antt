@@ -1,5 +1,4 @@
 use Rattle.std.proofs.Common.{◌≡◌, length, string_bytes}
-use Rattle.charges.specs.Findings.{meant_by}
 use Rattle.table.specs.Ranges.{AllRanged}
 use Rattle.book.specs.Ledgers.{ledger_of}
 use Rattle.transcripts.proofs.Answering.{Answered}
@@ -8,9 +7,9 @@ use Rattle.transcripts.proofs.transcript.transcript_over.Given as goal
 abbrev pub invariant-loop-line : goal.invariant-loop-line
 invariant-loop-line g l =
     record {
-      bounds : l.book.places ≡ l.initial.book.places;
+      bounds : l.book.rules ≡ l.initial.book.rules;
       ranged : AllRanged l.book.table;
-      answered : Answered (meant_by g.C.Bound.meaning g.A.Bound.meaning g.I.Bound.meaning g.Q.Bound.meaning l.initial.book.places) l.script l.rest
+      answered : Answered (g.R.Rules.meanings l.initial.book.rules) l.script l.rest
           (ledger_of l.book.table l.book.is_open) (string_bytes l.text) l.number;
     }
 

@@ -1,6 +1,5 @@
 use Rattle.std.proofs.Common.{refl, ap, ◌∙◌, arith}
 use Rattle.std.specs.Option.{option_map}
-use Rattle.charges.specs.Findings.{meant_by}
 use Rattle.answers.proofs.Unfound.{unfound}
 use Rattle.bodies.specs.Bodies.{standing_of}
 use Rattle.ledger.specs.Readings.{lines, own}
@@ -10,7 +9,7 @@ use Rattle.book.proofs.book.Book.question.Goals as goal
 
 pub returns : goal.returns
 returns g c =
-    let m = meant_by g.C.Bound.meaning g.A.Bound.meaning g.I.Bound.meaning g.Q.Bound.meaning c.args.self.now.places in
+    let m = g.R.Rules.meanings c.args.self.now.rules in
     let s = slots_of c.args.self.now.table in
     let t = c.args.self.now.table in
     record {

@@ -1,5 +1,4 @@
 use Rattle.std.proofs.Common.{◌≤◌, length, ◌∙◌, subst}
-use Rattle.charges.specs.Findings.{meant_by}
 use Rattle.book.proofs.Drawing.{redrawn, rows_drawn, rows_listed}
 use Rattle.book.proofs.book.Book.write_listing.Goals as goal
 
@@ -8,7 +7,7 @@ write_listing-requires g c = c.listed-answers.ensures.small
 
 pub returns : goal.returns
 returns g c =
-    let m = meant_by g.C.Bound.meaning g.A.Bound.meaning g.I.Bound.meaning g.Q.Bound.meaning c.args.self.now.places in
+    let m = g.R.Rules.meanings c.args.self.now.rules in
     let t = c.args.self.now.table in
     let drawn = rows_drawn m t _ c.listed-answers.ensures.value in
     let rows = redrawn drawn c.write_listing.ensures.written in

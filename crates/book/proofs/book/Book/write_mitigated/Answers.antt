@@ -1,5 +1,4 @@
 use Rattle.std.proofs.Common.{ap}
-use Rattle.charges.specs.Findings.{meant_by}
 use Rattle.entries.specs.Table.{kinds}
 use Rattle.ledger.specs.Mitigation.{mitigated, mitigated_held}
 use Rattle.ledger.specs.Slots.{entry_file}
@@ -14,7 +13,7 @@ use Rattle.book.proofs.book.Book.write_mitigated.Goals as goal
 pub returns : goal.returns
 unfolding file_of mitigated
 returns g c =
-    let m = meant_by g.C.Bound.meaning g.A.Bound.meaning g.I.Bound.meaning g.Q.Bound.meaning c.args.self.now.places in
+    let m = g.R.Rules.meanings c.args.self.now.rules in
     let t = c.args.self.now.table in
     record {
       rows = c.write_file.ensures;

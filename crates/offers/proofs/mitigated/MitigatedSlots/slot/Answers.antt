@@ -1,6 +1,5 @@
 use Rattle.std.proofs.Common.{sym, ap, ◌∙◌, arith}
 use Rattle.std.proofs.lemmas.Bool.{cond-false, ne_eqb}
-use Rattle.charges.specs.Findings.{meant_by}
 use Rattle.entries.specs.Entries.{head}
 use Rattle.ledger.specs.Slots.{entry_of}
 use Rattle.offers.specs.Rows.{mitigated_rows}
@@ -8,7 +7,7 @@ use Rattle.offers.proofs.mitigated.MitigatedSlots.slot.Goals as goal
 
 pub returns-in-3 : goal.returns-in-3
 returns-in-3 g c =
-    let m = meant_by g.C.Bound.meaning g.A.Bound.meaning g.I.Bound.meaning g.Q.Bound.meaning c.args.self.now.places.now in
+    let m = g.R.Rules.meanings c.args.self.now.rules.now in
     let t = c.args.self.now.table.now in
     let three = c.in-3.is in
     record {
