@@ -19,7 +19,7 @@ use Rattle.ledger.proofs.Mitigating.{mitigates}
 use Rattle.table.specs.declared.hour.Table.{Table}
 use Rattle.table.specs.Tables.{slots_of}
 use Rattle.book.specs.Ledgers.{ledger_of}
-use Rattle.histories.specs.declared.file.File.{File}
+use Rattle.histories.specs.declared.drawn.Files.{Files}
 use Rattle.histories.specs.declared.compare.Comparison.{Comparison}
 use Rattle.histories.specs.Documents.{bytes_of, DrawnFrom}
 use Rattle.histories.specs.Histories.{slots_after, OffersMitigated, Compared, ComparedWhole}
@@ -36,9 +36,9 @@ module _ (t : Table) (is_open : Bool) (calls : List Act) (is : ledger_of t is_op
   pub well : WellFormed kinds (slots_of t)
   well = subst (WellFormed kinds) (sym slots_are) (reached calls)
 
-  pub files_are : (m k : Meanings) → k ≡ m → (entries mitigated listing : File) → DrawnFrom k (slots_of t) entries mitigated listing → DrawnFrom m (slots_after calls) entries mitigated listing
-  files_are m k e entries mitigated listing d =
-      subst (λ s. DrawnFrom m s entries mitigated listing) slots_are (subst (λ (x : Meanings). DrawnFrom x (slots_of t) entries mitigated listing) e d)
+  pub files_are : (m k : Meanings) → k ≡ m → (files : Files) → DrawnFrom k (slots_of t) files → DrawnFrom m (slots_after calls) files
+  files_are m k e files d =
+      subst (λ s. DrawnFrom m s files) slots_are (subst (λ (x : Meanings). DrawnFrom x (slots_of t) files) e d)
 
 -- a file of well-formed slots, loaded into a new book
 module _ (s : Slots) (fits : WellFormed kinds s) (bytes : List ℕ) (l : Ledger) (are : bytes ≡ entry_file kinds s) (new : l ≡ empty kinds) where
@@ -66,13 +66,13 @@ module _ (m : Meanings) (lawful : Lawful m) (calls : List Act) where
 
 -- the promises, from the files and the answers of the third book
 module _ (m n : Meanings) (first second : List Act) (r : Comparison)
-    (a : DrawnFrom m (slots_after first) r.first r.first_mitigated r.first_listing) (b : DrawnFrom n (slots_after second) r.second r.second_mitigated r.second_listing) where
-  pub compared : Decides r.alike (bytes_of r.first ≡ bytes_of r.second) → Compared first second r
+    (a : DrawnFrom m (slots_after first) r.first) (b : DrawnFrom n (slots_after second) r.second) where
+  pub compared : Decides r.alike (bytes_of r.first.entries ≡ bytes_of r.second.entries) → Compared first second r
   compared d =
       let left = a.entry_file_drawn.same in
       let right = b.entry_file_drawn.same in
-      let to : bytes_of r.first ≡ bytes_of r.second → slots_after first ≡ slots_after second = λ e. injective first second (sym left ∙ e ∙ right) in
-      let back : slots_after first ≡ slots_after second → bytes_of r.first ≡ bytes_of r.second = λ e. left ∙ ap (entry_file kinds) e ∙ sym right in
+      let to : bytes_of r.first.entries ≡ bytes_of r.second.entries → slots_after first ≡ slots_after second = λ e. injective first second (sym left ∙ e ∙ right) in
+      let back : slots_after first ≡ slots_after second → bytes_of r.first.entries ≡ bytes_of r.second.entries = λ e. left ∙ ap (entry_file kinds) e ∙ sym right in
       record {
         first_entry_file = left;
         second_entry_file = right;

@@ -1,3 +1,3 @@
 pub mod Replaying
 pub mod Comparing
-pub mod Laws
+pub mod Filled

@@ -7,6 +7,7 @@ use Rattle.ledger.specs.Mitigation.{mitigated_file}
 use Rattle.ledger.specs.Listing.{listing}
 use Rattle.histories.specs.declared.document.Document.{Document}
 use Rattle.histories.specs.declared.document.Document.TheVariants.{Entries, Mitigated, Listing}
+use Rattle.histories.specs.declared.drawn.Files.{Files}
 use Rattle.histories.specs.declared.file.File.{File}
 
 -- the bytes that count
@@ -25,7 +26,7 @@ drawn Mitigated m s = mitigated_file m s
 drawn Listing m s = listing m s
 
 -- the three files of one book
-pub record DrawnFrom (m : Meanings) (s : Slots) (entries mitigated listing : File) : Type 0 where
-  pub entry_file_drawn : Holds (drawn Entries m s) entries
-  pub mitigated_file_drawn : Holds (drawn Mitigated m s) mitigated
-  pub listing_drawn : Holds (drawn Listing m s) listing
+pub record DrawnFrom (m : Meanings) (s : Slots) (files : Files) : Type 0 where
+  pub entry_file_drawn : Holds (drawn Entries m s) files.entries
+  pub mitigated_file_drawn : Holds (drawn Mitigated m s) files.mitigated
+  pub listing_drawn : Holds (drawn Listing m s) files.listing

@@ -38,21 +38,21 @@ pub record OffersMitigated (m : Meanings) (s : Slots) : Type 0 where
 
 pub record Compared (first second : List Act) (r : Comparison) : Type 0 where
   -- each book's entry file is the one drawn from its list's ledger
-  pub first_entry_file : bytes_of r.first ≡ entry_file kinds (ledger kinds first).slots
-  pub second_entry_file : bytes_of r.second ≡ entry_file kinds (ledger kinds second).slots
+  pub first_entry_file : bytes_of r.first.entries ≡ entry_file kinds (ledger kinds first).slots
+  pub second_entry_file : bytes_of r.second.entries ≡ entry_file kinds (ledger kinds second).slots
   -- the files are equal exactly where the ledgers end with equal slots, and the answer says which
-  pub equal_files_equal_slots : bytes_of r.first ≡ bytes_of r.second → (ledger kinds first).slots ≡ (ledger kinds second).slots
-  pub equal_slots_equal_files : (ledger kinds first).slots ≡ (ledger kinds second).slots → bytes_of r.first ≡ bytes_of r.second
+  pub equal_files_equal_slots : bytes_of r.first.entries ≡ bytes_of r.second.entries → (ledger kinds first).slots ≡ (ledger kinds second).slots
+  pub equal_slots_equal_files : (ledger kinds first).slots ≡ (ledger kinds second).slots → bytes_of r.first.entries ≡ bytes_of r.second.entries
   pub alike_says_which : Decides r.alike ((ledger kinds first).slots ≡ (ledger kinds second).slots)
 
 -- what holds beyond that of the three files of each book; m and n are the meanings of the bounds of the first and of the second
 pub record ComparedWhole (m n : Meanings) (first second : List Act) (r : Comparison) : Type 0 where
   -- each book's three files are those drawn from its list's ledger and its bounds' meanings
-  pub first_files : DrawnFrom m (slots_after first) r.first r.first_mitigated r.first_listing
-  pub second_files : DrawnFrom n (slots_after second) r.second r.second_mitigated r.second_listing
+  pub first_files : DrawnFrom m (slots_after first) r.first
+  pub second_files : DrawnFrom n (slots_after second) r.second
   -- bounds that agree on every line, reference and value leave no difference
-  pub agreeing_bounds_equal_listings : Agree m n → slots_after first ≡ slots_after second → bytes_of r.first_listing ≡ bytes_of r.second_listing
-  pub agreeing_bounds_equal_mitigated : Agree m n → slots_after first ≡ slots_after second → bytes_of r.first_mitigated ≡ bytes_of r.second_mitigated
+  pub agreeing_bounds_equal_listings : Agree m n → slots_after first ≡ slots_after second → bytes_of r.first.listing ≡ bytes_of r.second.listing
+  pub agreeing_bounds_equal_mitigated : Agree m n → slots_after first ≡ slots_after second → bytes_of r.first.mitigated ≡ bytes_of r.second.mitigated
   -- one more post or clear for a resource leaves the line of every other that shares no entity with it before or after
   pub one_more_call_leaves_neighbours : (a : Act) (resource other : ℕ) → second ≡ first ++ (a ∷ []) → Agree m n
       → For a resource → (other ≢ resource) → ShareNone (slots_after first) resource other → ShareNone (slots_after second) resource other
@@ -62,7 +62,7 @@ pub record ComparedWhole (m n : Meanings) (first second : List Act) (r : Compari
   pub second_offers : OffersMitigated n (slots_after second)
   -- the first's mitigated file is taken by a new book over the same bounds, and is that book's mitigated file
   pub mitigated_file_is_taken : r.taken ≡ true
-  pub mitigated_file_stays : bytes_of r.again ≡ bytes_of r.first_mitigated
+  pub mitigated_file_stays : bytes_of r.again ≡ bytes_of r.first.mitigated
 
 -- an entry file is taken by a new book and written again byte for byte
 pub record WrittenAgain (calls : List Act) (r : Rewritten) : Type 0 where

@@ -19,7 +19,11 @@ pub struct Rewritten {
 }
 
 // Loads the entry file of a replayed list into a new book, and writes it again.
-pub fn write_again<R: Rules + Drop, S: Rules + Drop>(rules: R, calls: &[Call], new_rules: S) -> Rewritten
+pub fn write_again<R: Rules + Drop, S: Rules + Drop>(
+    rules: R,
+    calls: &[Call],
+    new_rules: S,
+) -> Rewritten
     ensures { WrittenAgain (acts_of calls.now) result }
 {
     let one = replay(rules, calls);

@@ -12,17 +12,13 @@ use crate::replay::replay;
 use book::book::Book;
 use charges::rules::Rules;
 
-// The entry files of two books, and whether the two hours hold the same; the books' other files, whether a third
-// new book takes the first's mitigated file, and the mitigated file of that book.
+// The files of two books, and whether the two hours hold the same; whether a third new book takes the first's
+// mitigated file, and the mitigated file of that book.
 #[derive(Clone, Copy)]
 pub struct Comparison {
-    pub first: File,
-    pub second: File,
+    pub first: Files,
+    pub second: Files,
     pub alike: bool,
-    pub first_mitigated: File,
-    pub first_listing: File,
-    pub second_mitigated: File,
-    pub second_listing: File,
     pub taken: bool,
     pub again: File,
 }
@@ -42,20 +38,14 @@ pub fn compare<R: Rules + Drop, S: Rules + Drop>(
     let two = replay(second_rules, second);
     let of_first = Files::of(&one);
     let of_second = Files::of(&two);
-    let left = of_first.entries;
-    let right = of_second.entries;
-    let alike = same_bytes(&left, &right);
+    let alike = same_bytes(&of_first.entries, &of_second.entries);
     let Book { rules, .. } = one;
     let mut new = Book::open(rules);
     let taken = new.load(of_first.mitigated.part()).is_ok();
     Comparison {
-        first: left,
-        second: right,
+        first: of_first,
+        second: of_second,
         alike,
-        first_mitigated: of_first.mitigated,
-        first_listing: of_first.listing,
-        second_mitigated: of_second.mitigated,
-        second_listing: of_second.listing,
         taken,
         again: file(&new, Document::Mitigated),
     }

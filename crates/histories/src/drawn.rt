@@ -40,36 +40,24 @@ fn write_document<R: Rules>(
 }
 
 // A file of a book that some list of calls leads to.
-pub fn file<R: Rules>(
-    book: &Book<R>,
-    document: Document,
-) -> File
+pub fn file<R: Rules>(book: &Book<R>, document: Document) -> File
     requires well { WellFormed kinds (slots_of book.now.table) }
     requires ranged { AllRanged book.now.table }
     ensures { Holds (drawn_of document (R.meanings book.now.rules) (slots_of book.now.table)) result }
 {
-    let mut drawn = File {
-        bytes: [0; 31_319],
-        length: 0,
-    };
-    if let Ok(length) = write_document(book, document, &mut drawn.bytes) {
-        drawn.length = length;
-    }
-    drawn
+    let mut bytes = [0; 31_319];
+    let length = write_document(book, document, &mut bytes).unwrap_or(0);
+    File { bytes, length }
 }
 
 // The entry file of a book that some list of calls leads to.
-pub fn entry_file<R: Rules>(
-    book: &Book<R>,
-) -> File
+pub fn entry_file<R: Rules>(book: &Book<R>) -> File
     requires { WellFormed kinds (slots_of book.now.table) }
     ensures { Holds (entry_file_of kinds (slots_of book.now.table)) result }
 {
     let mut bytes = [0; 31_319];
-    match book.write_entries(&mut bytes, 0) {
-        Ok(length) => File { bytes, length },
-        Err(_) => File { bytes, length: 0 },
-    }
+    let length = book.write_entries(&mut bytes, 0).unwrap_or(0);
+    File { bytes, length }
 }
 
 pub fn same_bytes(one: &File, other: &File) -> bool
@@ -80,12 +68,10 @@ pub fn same_bytes(one: &File, other: &File) -> bool
 
 impl Files {
     // The three files of a book that some list of calls leads to.
-    pub fn of<R: Rules>(
-        book: &Book<R>,
-    ) -> Files
+    pub fn of<R: Rules>(book: &Book<R>) -> Files
         requires well { WellFormed kinds (slots_of book.now.table) }
         requires ranged { AllRanged book.now.table }
-        ensures { DrawnFrom (R.meanings book.now.rules) (slots_of book.now.table) result.entries result.mitigated result.listing }
+        ensures { DrawnFrom (R.meanings book.now.rules) (slots_of book.now.table) result }
     {
         Files {
             entries: entry_file(book),
