@@ -4,10 +4,10 @@ ghost use Rattle.answering.specs.Texts.{text_for, standard_meanings};
 
 use crate::texts::{listing, refused};
 use book::book::Book;
-use charges::rules::Rules;
 use bounds::ceiling::Ceiling;
 use bounds::exemption::Exemption;
 use bounds::shortfall::Shortfall;
+use charges::rules::Rules;
 use std::alloc::{AllocError, Global};
 use verdicts::places::standard;
 
@@ -15,7 +15,11 @@ use verdicts::places::standard;
 pub const MOST: usize = 65_536;
 
 // The answer over any bounds.
-pub fn answer_over<R: Rules + Drop>(rules: R, heap: Global, input: &[u8]) -> Result<Vec<u8>, AllocError>
+pub fn answer_over<R: Rules + Drop>(
+    rules: R,
+    heap: Global,
+    input: &[u8],
+) -> Result<Vec<u8>, AllocError>
     ensures { IfOk result (λ v. v.items ≡ text_for (R.meanings rules) input.now) }
 {
     if input.len() > MOST {

@@ -21,10 +21,7 @@ pub fn refused(heap: Global, refusal: Refusal) -> Result<String, AllocError>
 }
 
 // A book's listing.
-pub(crate) fn listing<R: Rules>(
-    heap: Global,
-    book: &Book<R>,
-) -> Result<Vec<u8>, AllocError>
+pub(crate) fn listing<R: Rules>(heap: Global, book: &Book<R>) -> Result<Vec<u8>, AllocError>
     requires { AllRanged book.now.table }
     ensures { IfOk result (λ v. v.items ≡ listing_of (R.meanings book.now.rules) (slots_of book.now.table)) }
 {

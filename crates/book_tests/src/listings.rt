@@ -210,13 +210,13 @@ mod tests {
         assert!(rt; !r.alike && r.taken);
         assert!(rt;
             says(
-                &r.first_listing,
+                &r.first.listing,
                 b"00 NNNNNNNN NNNN PNNN FNNN FNNN 1620000\n01 NNNNNNNN NNNN PNNN FNNN FNNN 1620000\n09 NNNNNNNN NNNN FNNN NNNN FNNN 43200000\n",
             )
         );
         assert!(rt;
             says(
-                &r.second_listing,
+                &r.second.listing,
                 b"00 NNNNNNNN NNNN PNNN PNNN FNNN 0\n01 NNNNNNNN NNNN PNNN PNNN FNNN 0\n09 NNNNNNNN NNNN FNNN NNNN FNNN 43200000\n",
             )
         );
@@ -253,14 +253,14 @@ mod tests {
         let lenient = Places::new(Margin { cents: 90_000 }, Ceiling, Ceiling, Shortfall);
         let r = compare(standard(), &calls, lenient, &calls);
         assert!(rt; r.alike && r.taken);
-        assert!(rt; says(&r.first_listing, b"02 FNNNNNNN FNNN NNNN NNNN NNNN 0\n"));
-        assert!(rt; says(&r.second_listing, b"02 PNNNNNNN FNNN NNNN NNNN NNNN 0\n"));
-        assert!(rt; same_bytes(&r.second_mitigated, &r.second));
-        assert!(rt; !same_bytes(&r.first_mitigated, &r.first));
-        assert!(rt; same_bytes(&r.again, &r.first_mitigated));
+        assert!(rt; says(&r.first.listing, b"02 FNNNNNNN FNNN NNNN NNNN NNNN 0\n"));
+        assert!(rt; says(&r.second.listing, b"02 PNNNNNNN FNNN NNNN NNNN NNNN 0\n"));
+        assert!(rt; same_bytes(&r.second.mitigated, &r.second.entries));
+        assert!(rt; !same_bytes(&r.first.mitigated, &r.first.entries));
+        assert!(rt; same_bytes(&r.again, &r.first.mitigated));
         // behind the mark, two lines and the standing, the reference's steps in the offer's place
         assert!(rt;
-            r.first_mitigated.length >= 79 && says_at(&r.first_mitigated, 55, &reference[5..29])
+            r.first.mitigated.length >= 79 && says_at(&r.first.mitigated, 55, &reference[5..29])
         );
     }
 }

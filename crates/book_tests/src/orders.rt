@@ -49,7 +49,7 @@ mod tests {
         ];
         let r = compare(standard(), &first, standard(), &second);
         assert!(rt; r.alike);
-        assert!(rt; r.first.length == 30 && r.second.length == 30);
+        assert!(rt; r.first.entries.length == 30 && r.second.entries.length == 30);
     }
 
     // The first's listing is empty, and a third book takes and writes its mitigated file of 30 bytes.
@@ -62,7 +62,7 @@ mod tests {
             Call::Close,
         ];
         let r = compare(standard(), &calls, standard(), &[]);
-        assert!(rt; r.first_listing.length == 0 && r.taken && r.again.length == 30);
+        assert!(rt; r.first.listing.length == 0 && r.taken && r.again.length == 30);
     }
 
     #[test]

@@ -42,8 +42,8 @@ fn print_differences(rt: &HostRuntime, first: &[u8], second: &[u8]) -> anyhow::R
 fn print_line(rt: &HostRuntime, resource: u8, r: &Comparison) -> anyhow::Result<bool>
     requires { resource < 100 }
 {
-    let first = line_for(r.first_listing.part(), resource);
-    let second = line_for(r.second_listing.part(), resource);
+    let first = line_for(r.first.listing.part(), resource);
+    let second = line_for(r.second.listing.part(), resource);
     match (first, second) {
         (Some(a), Some(b)) if a != b => {
             println!(rt; "Resource {resource} is listed differently:")?;

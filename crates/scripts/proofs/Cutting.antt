@@ -1,21 +1,41 @@
 -- A text cut at the first of a byte.
-use Rattle.std.proofs.Common.{◌≡◌, ℕ, suc, ◌+◌, ◌-◌, ◌<◌, ◌≤◌, true, false, cond, eqb, List, [], ◌∷◌, length, get_or, take, drop, Some, None, Option, sym, refl, ap, ◌∙◌, add-one, arith, Bor, MatchOption}
-use native.Mathlib.Nat.{sub-zero}
-use Rattle.std.proofs.lemmas.List.{at_drop_more, at_drop_all, take_all, drop_all, take_rest}
-use Rattle.std.proofs.lemmas.Bool.{eq-eqb, ne_eqb, cond-true, cond-false}
+use Rattle.std.proofs.Common.{◌≡◌, ℕ, Bool, not, nat_lt, is_some, suc, ◌+◌, ◌-◌, ◌<◌, ◌≤◌, true, false, cond, eqb, List, [], ◌∷◌, length, take, drop, Some, None, Option, sym, refl, ap, ◌∙◌, add-one, arith, Bor, MatchOption}
+use Rattle.std.proofs.lemmas.List.{take_all, drop_all, take_rest}
+use Rattle.std.proofs.lemmas.Bool.{leb-true, leb-false}
+use Rattle.std.specs.Prelude.{position}
+use Rattle.std.specs.List.{position_or_len}
+use Rattle.std.specs.Option.{unwrap_or}
 use Rattle.scripts.specs.Commands.{command_in, command_of}
 use Rattle.scripts.specs.Texts.{before, behind, onto, words_of, lines_of}
 
--- what is left of a search at i, which began at 0
-module _ (b : ℕ) (text : List ℕ) (i : ℕ) where
-  pub stops_here : i < length text → get_or text i 0 ≡ b → length (before b (drop i text)) ≡ 0
-  stops_here h e = ap length (at_drop_more (before b) text i 0 h ∙ cond-true _ _ _ (eq-eqb (get_or text i 0) b e))
+-- the place that a search finds is behind what stands before it
+before_length : (b : ℕ) (text : List ℕ) → position_or_len (λ x. eqb x b) text ≡ length (before b text)
+before_length b [] = refl
+before_length b (x ∷ xs) =
+    elim (eqb x b) as (λ v. cond (not v) (1 + position_or_len (λ y. eqb y b) xs) 0 ≡ length (cond v [] (x ∷ before b xs))) [
+      | true ↦ refl
+      | false ↦ let h = before_length b xs in omega arith
+    ]
 
-  pub goes_on : i < length text → (get_or text i 0 ≡ b → ⊥) → length (before b (drop i text)) ≡ suc (length (before b (drop (i + 1) text)))
-  goes_on h ne = ap length (at_drop_more (before b) text i 0 h ∙ cond-false _ _ _ (ne_eqb (get_or text i 0) b ne))
+some_case : (v : Bool) (m n : ℕ) → cond v (Some m) None ≡ Some n → (n ≡ m) × (v ≡ true)
+some_case true m n e = (sym (ap (λ o. unwrap_or o 0) e), refl)
+some_case false m n e = absurd (let h = ap is_some e in cc)
 
-  pub ends_here : length text ≤ i → length (before b (drop i text)) ≡ 0
-  ends_here h = ap length (at_drop_all (before b) text i h)
+none_case : (v : Bool) (m : ℕ) → cond v (Some m) None ≡ None → v ≡ false
+none_case true m e = ap is_some e
+none_case false m e = refl
+
+module _ (b : ℕ) (text : List ℕ) where
+  found_at : cond (nat_lt (length (before b text)) (length text)) (Some (length (before b text))) None ≡ position (λ x. eqb x b) text
+  found_at = λ i. cond (nat_lt (sym (before_length b text) i) (length text)) (Some (sym (before_length b text) i)) None
+
+  pub found : (n : ℕ) → position (λ x. eqb x b) text ≡ Some n → (n ≡ length (before b text)) × (n < length text)
+  found n e =
+      let at = some_case _ _ n (found_at ∙ e) in
+      (at.0, let less = leb-true _ _ at.1 in omega arith)
+
+  pub not_found : position (λ x. eqb x b) text ≡ None → length text ≤ length (before b text)
+  not_found e = let h = leb-false _ _ (none_case _ _ (found_at ∙ e)) in omega arith
 
 -- the two parts by their lengths
 pub take_before : (b : ℕ) (text : List ℕ) → take (length (before b text)) text ≡ before b text
@@ -75,8 +95,8 @@ more_lines (x ∷ y ∷ ys) h =
 
 -- the parts as the checker reads them
 module _ (b : ℕ) (text : List ℕ) (end : ℕ) (is : end ≡ length (before b text)) where
-  pub front_is : take (end - 0) text ≡ before b text
-  front_is = ap (λ n. take n text) (sub-zero end ∙ is) ∙ take_before b text
+  pub front_is : take end text ≡ before b text
+  front_is = ap (λ n. take n text) is ∙ take_before b text
 
   pub back_is : take (length text - (end + 1)) (drop (end + 1) text) ≡ behind b text
   back_is = take_rest text (end + 1) ∙ ap (λ n. drop n text) (add-one end ∙ ap suc is) ∙ drop_behind b text

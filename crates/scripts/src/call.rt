@@ -37,15 +37,14 @@ impl Script {
         }
         Some(in_store(self.calls[index], self.bytes.as_slice()))
     }
+
     // All the calls, in order.
     pub fn list(&self, heap: Global) -> Result<Vec<Call<'_>>, AllocError>
         ensures { IfOk result (λ v. map said_by v.items ≡ calls_in self.now) }
     {
         let mut list = Vec::new(heap);
-        let mut index = 0;
-        while let Some(call) = self.get(index) {
-            list.push(call)?;
-            index += 1;
+        for call in &self.calls {
+            list.push(in_store(*call, self.bytes.as_slice()))?;
         }
         Ok(list)
     }

@@ -2,7 +2,7 @@
 // `listing`, with single blanks. HEX may have no digits, and then its blank may be missing too.
 ghost use Rattle.std.specs.Prelude.{◌≡◌};
 ghost use Rattle.std.specs.Option.{option_map};
-ghost use Rattle.scripts.specs.Commands.{order_of, alone as alone_of, with_one as one_of_lem, with_three as three_of, command_of};
+ghost use Rattle.scripts.specs.Commands.{order_of, alone as alone_of, with_one as of_one, with_three as three_of, command_of};
 
 use crate::decimal::read_byte;
 use crate::hex::is_hex;
@@ -26,9 +26,9 @@ fn alone(name: &[u8]) -> Option<Command<'_>>
     ensures { option_map order_of result ≡ alone_of name.now }
 {
     if is(name, b"post") {
-        Some(Command::Post(&name[name.len()..]))
+        Some(Command::Post(&[]))
     } else if is(name, b"load") {
-        Some(Command::Load(&name[name.len()..]))
+        Some(Command::Load(&[]))
     } else if is(name, b"close") {
         Some(Command::Close)
     } else if is(name, b"entries") {
@@ -44,23 +44,14 @@ fn alone(name: &[u8]) -> Option<Command<'_>>
 
 // A name and one word behind it.
 fn with_one<'a>(name: &[u8], word: &'a [u8]) -> Option<Command<'a>>
-    ensures { option_map order_of result ≡ one_of_lem name.now word.now }
+    ensures { option_map order_of result ≡ of_one name.now word.now }
 {
-    if is(name, b"post") {
-        if is_hex(word) {
-            Some(Command::Post(word))
-        } else {
-            None
-        }
-    } else if is(name, b"load") {
-        if is_hex(word) {
-            Some(Command::Load(word))
-        } else {
-            None
-        }
+    if is(name, b"post") && is_hex(word) {
+        Some(Command::Post(word))
+    } else if is(name, b"load") && is_hex(word) {
+        Some(Command::Load(word))
     } else if is(name, b"ask") {
-        let resource = read_byte(word)?;
-        Some(Command::Ask { resource })
+        read_byte(word).map(|resource| Command::Ask { resource })
     } else {
         None
     }

@@ -1,5 +1,5 @@
 // Texts cut into words and lines.
-ghost use Rattle.std.specs.Prelude.{◌≡◌, ◌<◌, ◌≤◌, [], ◌∷◌, length, MatchOption};
+ghost use Rattle.std.specs.Prelude.{◌≡◌, ◌==◌, ◌<◌, [], ◌∷◌, length, position, MatchOption};
 ghost use Rattle.std.specs.Str.{bytes_eq};
 ghost use Rattle.scripts.specs.Texts.{before, behind, words_of, lines_of};
 
@@ -9,17 +9,11 @@ pub(crate) fn is(word: &[u8], name: &[u8]) -> bool
     word == name
 }
 
-// The place of the first such byte, or the length where there is none.
-fn find(text: &[u8], byte: u8) -> usize
-    ensures value { result ≡ length (before byte text.now) }
-    ensures within { result ≤ length text.now }
+// The place of the first such byte.
+fn find(text: &[u8], byte: u8) -> Option<usize>
+    ensures { result ≡ position (λ x. x == byte) text.now }
 {
-    for (i, x) in text.iter().enumerate() {
-        if *x == byte {
-            return i;
-        }
-    }
-    text.len()
+    text.iter().position(|x| *x == byte)
 }
 
 // What stands before the first such byte, and what behind it; none where there is none.
@@ -27,11 +21,8 @@ fn split_at_first(text: &[u8], byte: u8) -> Option<(&[u8], &[u8])>
     ensures test { MatchOption result (before byte text.now ≡ text.now) (λ _. length (before byte text.now) < length text.now) }
     ensures parts { MatchOption result (behind byte text.now ≡ []) (λ p. (p.0.now ≡ before byte text.now) × (p.1.now ≡ behind byte text.now)) }
 {
-    let end = find(text, byte);
-    if end == text.len() {
-        return None;
-    }
-    Some((&text[0..end], &text[end + 1..]))
+    let end = find(text, byte)?;
+    Some((&text[..end], &text[end + 1..]))
 }
 
 // The first word and the text behind its blank; none where the text is one word.

@@ -20,7 +20,6 @@ use histories::drawn::file;
 use scripts::command::{Command, read_command};
 use scripts::hex::decode;
 use std::alloc::{AllocError, Global};
-use vocabulary::verdict::Verdict;
 
 fn decoded(heap: Global, hex: &[u8]) -> Result<Vec<u8>, AllocError>
     ensures { IfOk result (λ v. v.items ≡ hex_bytes hex.now) }
@@ -31,22 +30,11 @@ fn decoded(heap: Global, hex: &[u8]) -> Result<Vec<u8>, AllocError>
 }
 
 // The verdicts on a resource and its charges.
-fn found<R: Rules>(
-    heap: Global,
-    book: &Book<R>,
-    resource: u8,
-) -> Result<String, AllocError>
+fn found<R: Rules>(heap: Global, book: &Book<R>, resource: u8) -> Result<String, AllocError>
     requires { AllRanged book.now.table }
     ensures { IfOk result (λ s. string_bytes s ≡ found_text (R.meanings book.now.rules) (slots_of book.now.table) resource) }
 {
-    let mut answer = Answer {
-        conduct: [Verdict::NotTested; 8],
-        impact: [Verdict::NotTested; 4],
-        resource: [Verdict::NotTested; 4],
-        entity: [Verdict::NotTested; 4],
-        quantity_impact: [Verdict::NotTested; 4],
-        charges: [0; 4],
-    };
+    let mut answer = Answer::nothing();
     match book.question(resource, &mut answer) {
         Ok(()) => answer_text(heap, &answer),
         Err(refusal) => told_text(heap, Err(refusal)),
@@ -54,11 +42,7 @@ fn found<R: Rules>(
 }
 
 // A file of a book in hex.
-fn drawn<R: Rules>(
-    heap: Global,
-    book: &Book<R>,
-    document: Document,
-) -> Result<String, AllocError>
+fn drawn<R: Rules>(heap: Global, book: &Book<R>, document: Document) -> Result<String, AllocError>
     requires well { WellFormed kinds (slots_of book.now.table) }
     requires ranged { AllRanged book.now.table }
     ensures { IfOk result (λ s. string_bytes s ≡ hex_line_of (drawn_of document (R.meanings book.now.rules) (slots_of book.now.table))) }

@@ -32,24 +32,13 @@ pub(crate) fn hex_line(heap: Global, bytes: &[u8]) -> Result<String, AllocError>
     format!(in heap; "{text}\n")
 }
 
-// A verdict's letter.
-fn letter(verdict: Verdict) -> &'static str
-    ensures { result.now ≡ spelled (verdict ∷ []) }
-{
-    match verdict {
-        Verdict::NotTested => "N",
-        Verdict::Passed => "P",
-        Verdict::Failed => "F",
-    }
-}
-
 // A letter for each verdict.
 fn letters(heap: Global, verdicts: &[Verdict]) -> Result<String, AllocError>
     ensures { IfOk result (λ s. string_bytes s ≡ spelled verdicts.now) }
 {
     let mut text = String::new(heap);
     for verdict in verdicts {
-        text.push_str(letter(*verdict))?;
+        text.push(char::from(verdict.letter()))?;
     }
     Ok(text)
 }
@@ -68,10 +57,7 @@ fn verdicts_text(heap: Global, answer: &Answer) -> Result<String, AllocError>
 fn charges_text(heap: Global, charges: &[u64; 4]) -> Result<String, AllocError>
     ensures { IfOk result (λ s. string_bytes s ≡ charges_of charges.now) }
 {
-    let energy = charges[0];
-    let spinning = charges[1];
-    let non_spinning = charges[2];
-    let thirty_minute = charges[3];
+    let [energy, spinning, non_spinning, thirty_minute] = charges;
     format!(in heap; "{energy} {spinning} {non_spinning} {thirty_minute}")
 }
 

@@ -8,16 +8,20 @@ ghost use Rattle.transcripts.specs.Transcripts.{transcript as transcript_of};
 
 use crate::obeying::obey_line;
 use book::book::Book;
-use charges::rules::Rules;
 use bounds::ceiling::Ceiling;
 use bounds::exemption::Exemption;
 use bounds::shortfall::Shortfall;
+use charges::rules::Rules;
 use scripts::texts::split_line;
 use std::alloc::{AllocError, Global};
 use verdicts::places::standard;
 
 // The answers over any bounds, a line for each line.
-pub fn transcript_over<R: Rules + Drop>(rules: R, heap: Global, script: &[u8]) -> Result<String, AllocError>
+pub fn transcript_over<R: Rules + Drop>(
+    rules: R,
+    heap: Global,
+    script: &[u8],
+) -> Result<String, AllocError>
     ensures { IfOk result (λ s. string_bytes s ≡ transcript_of (R.meanings rules) (no_calls kinds) 0 (lines_of script.now)) }
 {
     let mut book = Book::open(rules);
