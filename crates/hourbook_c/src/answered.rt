@@ -1,10 +1,11 @@
 // What the calls of a script were told.
 ghost use Rattle.std.specs.Prelude.{◌+◌, ◌*◌, ◌^◌, ◌<◌, ◌≤◌, length};
 
-use crate::script::{call_at, obey};
+use crate::script::split_call;
 use bodies::fault::Refusal;
 use book::book::Book;
 use charges::rules::Rules;
+use histories::replay::obey;
 use writers::bytes::write_bytes;
 
 // The number of a refusal, 0 for none, and the low four bytes of its place.
@@ -25,19 +26,15 @@ fn answer_bytes(answer: Result<(), Refusal>) -> [u8; 5] {
 }
 
 // Makes the calls of a script in turn, and writes what each is told, five bytes a call, as far as there is room.
-pub fn write_answers<R: Rules>(
-    book: &mut Book<R>,
-    script: &[u8],
-    out: &mut [u8],
-) {
-    let mut at = 0;
+pub fn write_answers<R: Rules>(book: &mut Book<R>, script: &[u8], out: &mut [u8]) {
+    let mut rest = script;
     let mut written = 0;
-    while at < script.len() && out.len() - written >= 5 {
-        let Ok((call, next)) = call_at(script, at) else {
+    while out.len() - written >= 5 {
+        let Ok(Some((call, more))) = split_call(rest) else {
             return;
         };
         let answer = obey(book, call);
         written += write_bytes(&mut out[written..], &answer_bytes(answer));
-        at = next;
+        rest = more;
     }
 }

@@ -11,24 +11,18 @@ use bounds::exemption::Exemption;
 use bounds::shortfall::Shortfall;
 use verdicts::places::standard;
 
-fn told(answer: Result<usize, Refusal>) -> Result<usize, Fault> {
-    match answer {
-        Ok(length) => Ok(length),
-        Err(refusal) => Err(refusal.fault),
-    }
-}
-
 // Writes an output of the book after the script: entries, mitigated file, listing or questions.
 fn write_output(script: &[u8], out: &mut [u8], place: usize, which: u32) -> Result<usize, Fault> {
     let mut book = Book::open(standard());
     replay(&mut book, script)?;
-    match which {
-        0 => told(book.write_entries(out, place)),
-        1 => told(book.write_mitigated(out, place)),
-        2 => told(book.write_listing(out, place)),
-        4 => told(write_questions(&book, out, place)),
-        _ => Err(Fault::Kind),
-    }
+    let answer = match which {
+        0 => book.write_entries(out, place),
+        1 => book.write_mitigated(out, place),
+        2 => book.write_listing(out, place),
+        4 => write_questions(&book, out, place),
+        _ => return Err(Fault::Kind),
+    };
+    answer.map_err(|refusal| refusal.fault)
 }
 
 // Writes what the calls of the script are told.
@@ -45,8 +39,7 @@ fn write_told(script: &[u8], out: &mut [u8], place: usize) -> Result<usize, Faul
 // A length as it is, a fault as its number below 0.
 fn code(answer: Result<usize, Fault>) -> i64 {
     match answer {
-        Ok(length) if length <= 0x7fff_ffff_ffff_ffff => length as i64,
-        Ok(_) => -8,
+        Ok(length) => i64::try_from(length).unwrap_or(-8),
         Err(fault) => -i64::from(fault.number()),
     }
 }

@@ -1,60 +1,50 @@
 // Scripts: calls one behind the other, each a number and then its arguments.
-ghost use Rattle.std.specs.Prelude.{◌≡◌, ◌+◌, ◌<◌, ◌≤◌, length, IfOk};
+ghost use Rattle.std.specs.Prelude.{◌≡◌, ◌<◌, ◌≤◌, length, IfOk, IfSome};
 
-use bodies::fault::{Fault, Refusal};
-use bodies::numbers::read_word;
+use bodies::fault::Fault;
 use book::book::Book;
 use charges::rules::Rules;
 use histories::call::Call;
+use histories::replay::obey;
 
-// Where the part ends whose length stands in the four bytes from `at` on.
-fn part_end(script: &[u8], at: usize) -> Result<usize, Fault>
-    requires { at ≤ length script.now }
-    ensures { IfOk result (λ end. (at + 4 ≤ end) × (end ≤ length script.now)) }
+// The bytes whose number stands in the first four, and what is behind them.
+fn split_part(bytes: &[u8]) -> Result<(&[u8], &[u8]), Fault>
+    ensures { IfOk result (λ p. length p.1.now ≤ length bytes.now) }
 {
-    let left = script.len() - at;
-    if left < 4 {
+    let [a, b, c, d, rest @ ..] = bytes else {
         return Err(Fault::Short);
-    }
-    let size = read_word(script, at) as usize;
-    if left - 4 < size {
-        return Err(Fault::Short);
-    }
-    Ok(at + 4 + size)
-}
-
-// A call that names a slot by the three bytes from `at` on.
-fn clear_at(script: &[u8], at: usize) -> Result<(Call<'static>, usize), Fault>
-    requires { at ≤ length script.now }
-    ensures { IfOk result (λ p. (at ≤ p.1) × (p.1 ≤ length script.now)) }
-{
-    if script.len() - at < 3 {
-        return Err(Fault::Short);
-    }
-    let call = Call::Clear {
-        kind: script[at],
-        first: script[at + 1],
-        sub: script[at + 2],
     };
-    Ok((call, at + 3))
+    let size = u32::from_be_bytes([*a, *b, *c, *d]) as usize;
+    if rest.len() < size {
+        return Err(Fault::Short);
+    }
+    Ok(rest.split_at(size))
 }
 
-// The call at a place of the script, and where the next one begins.
-pub fn call_at<'a>(script: &'a [u8], at: usize) -> Result<(Call<'a>, usize), Fault>
-    requires { at < length script.now }
-    ensures { IfOk result (λ p. (at < p.1) × (p.1 ≤ length script.now)) }
+// The call that a script begins with, and the script behind it; none where nothing is left.
+pub fn split_call(script: &[u8]) -> Result<Option<(Call<'_>, &[u8])>, Fault>
+    ensures { IfOk result (λ o. IfSome o (λ p. length p.1.now < length script.now)) }
 {
-    match script[at] {
-        1 => {
-            let end = part_end(script, at + 1)?;
-            Ok((Call::Post(&script[at + 5..end]), end))
+    match script {
+        [] => Ok(None),
+        [1, rest @ ..] => {
+            let (bytes, rest) = split_part(rest)?;
+            Ok(Some((Call::Post(bytes), rest)))
         }
-        2 => {
-            let end = part_end(script, at + 1)?;
-            Ok((Call::Load(&script[at + 5..end]), end))
+        [2, rest @ ..] => {
+            let (file, rest) = split_part(rest)?;
+            Ok(Some((Call::Load(file), rest)))
         }
-        3 => clear_at(script, at + 1),
-        4 => Ok((Call::Close, at + 1)),
+        [3, kind, first, sub, rest @ ..] => {
+            let call = Call::Clear {
+                kind: *kind,
+                first: *first,
+                sub: *sub,
+            };
+            Ok(Some((call, rest)))
+        }
+        [3, ..] => Err(Fault::Short),
+        [4, rest @ ..] => Ok(Some((Call::Close, rest))),
         _ => Err(Fault::Kind),
     }
 }
@@ -63,41 +53,23 @@ pub fn call_at<'a>(script: &'a [u8], at: usize) -> Result<(Call<'a>, usize), Fau
 pub fn count(script: &[u8]) -> Result<usize, Fault>
     ensures { IfOk result (λ n. n ≤ length script.now) }
 {
-    let mut at = 0;
+    let mut rest = script;
     let mut calls = 0;
-    while at < script.len() {
-        let (_call, next) = call_at(script, at)?;
+    while let Some((_call, more)) = split_call(rest)? {
         calls += 1;
-        at = next;
+        rest = more;
     }
     Ok(calls)
 }
 
-// Makes one call on a book.
-pub fn obey<R: Rules>(
-    book: &mut Book<R>,
-    call: Call,
-) -> Result<(), Refusal> {
-    match call {
-        Call::Post(bytes) => book.post(bytes),
-        Call::Clear { kind, first, sub } => book.clear(kind, first, sub),
-        Call::Load(file) => book.load(file),
-        Call::Close => book.close(),
-    }
-}
-
 // Makes the calls of a script in turn, refused or obeyed; ends at the first that is no call.
-pub fn replay<R: Rules>(
-    book: &mut Book<R>,
-    script: &[u8],
-) -> Result<(), Fault>
+pub fn replay<R: Rules>(book: &mut Book<R>, script: &[u8]) -> Result<(), Fault>
     ensures { length script.now ≡ 0 → book.new ≡ book.old }
 {
-    let mut at = 0;
-    while at < script.len() {
-        let (call, next) = call_at(script, at)?;
+    let mut rest = script;
+    while let Some((call, more)) = split_call(rest)? {
         let _ = obey(book, call);
-        at = next;
+        rest = more;
     }
     Ok(())
 }

@@ -1,8 +1,8 @@
-use Rattle.std.proofs.Common.{◌-◌, ◌≤◌, length}
+use Rattle.std.proofs.Common.{◌≤◌, length}
 use Rattle.hourbook_c.proofs.answered.write_answers.Given as goal
 
-abbrev pub invariant-loop-at : goal.invariant-loop-at
-invariant-loop-at g l = (l.at ≤ length l.script) × (l.written ≤ length l.out)
+abbrev pub invariant-loop-out : goal.invariant-loop-out
+invariant-loop-out g l = l.written ≤ length l.out
 
-abbrev pub decreases-loop-at : goal.decreases-loop-at
-decreases-loop-at g l = length l.script - l.at
+abbrev pub decreases-loop-out : goal.decreases-loop-out
+decreases-loop-out g l = length l.rest

@@ -1,8 +1,8 @@
-use Rattle.std.proofs.Common.{◌-◌, ◌≤◌, length}
+use Rattle.std.proofs.Common.{◌+◌, ◌≤◌, length}
 use Rattle.hourbook_c.proofs.script.count.Given as goal
 
-abbrev pub invariant-loop-at : goal.invariant-loop-at
-invariant-loop-at l = (l.calls ≤ l.at) × (l.at ≤ length l.script)
+abbrev pub invariant-loop-call : goal.invariant-loop-call
+invariant-loop-call l = l.calls + length l.rest ≤ length l.script
 
-abbrev pub decreases-loop-at : goal.decreases-loop-at
-decreases-loop-at l = length l.script - l.at
+abbrev pub decreases-loop-call : goal.decreases-loop-call
+decreases-loop-call l = length l.rest
