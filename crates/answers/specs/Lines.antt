@@ -1,5 +1,5 @@
 -- The line of a listing.
-use Rattle.std.specs.Prelude.{ℕ, ◌+◌, ◌/◌, ◌%◌, List, [], ◌∷◌, ◌++◌, map, decimal}
+use Rattle.std.specs.Prelude.{ℕ, ◌+◌, ◌/◌, ◌%◌, List, [], ◌∷◌, ◌++◌, map, decimal, sum}
 use Rattle.vocabulary.specs.declared.verdict.Verdict.{Verdict}
 use Rattle.vocabulary.specs.Numbers.{letter}
 use Rattle.answers.specs.declared.answer.Answer.{Answer}
@@ -10,10 +10,6 @@ two_digits n = (48 + n / 10) ∷ (48 + n % 10) ∷ []
 -- a blank, then a letter for each verdict
 abbrev pub letters : List Verdict → List ℕ
 letters vs = 32 ∷ map letter vs
-
-abbrev pub sum : List ℕ → ℕ
-sum [] = 0
-sum (n ∷ rest) = n + sum rest
 
 -- the resource's number, then a group of letters for each kind of verdict
 abbrev pub verdicts_of : ℕ → Answer → List ℕ

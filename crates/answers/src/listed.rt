@@ -1,9 +1,8 @@
 // What is found of every resource that has a standing.
-ghost use Rattle.std.specs.Prelude.{◌≡◌, ℕ, ◌^◌, ◌<◌, IfSome, None, slice_index_or};
+ghost use Rattle.std.specs.Prelude.{◌≡◌, ℕ, ◌^◌, ◌<◌, IfSome, None, slice_index_or, sum};
 ghost use Rattle.vocabulary.specs.Readings.{lines_of};
 ghost use Rattle.charges.specs.Tables.{owns_of};
 ghost use Rattle.answers.specs.Answers.{listed as listed_of};
-ghost use Rattle.answers.specs.Lines.{sum};
 ghost use Rattle.answers.specs.Shares.{Shared};
 
 use crate::answer::Answer;

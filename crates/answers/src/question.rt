@@ -1,12 +1,11 @@
 // Questions on one resource.
-ghost use Rattle.std.specs.Prelude.{◌≡◌, ◌^◌, ◌<◌};
+ghost use Rattle.std.specs.Prelude.{◌≡◌, ◌^◌, ◌<◌, sum};
 ghost use Rattle.vocabulary.specs.Readings.{lines_of, own_of};
 ghost use Rattle.verdicts.specs.Rules.{amount_conduct as amount_conduct_of};
 ghost use Rattle.charges.specs.Findings.{finding as finding_of};
 ghost use Rattle.charges.specs.Tables.{owns_of};
 ghost use Rattle.answers.specs.Answers.{answer as answer_of};
 ghost use Rattle.answers.specs.Assembling.{of_amounts, assembled as assembled_of};
-ghost use Rattle.answers.specs.Lines.{sum};
 ghost use Rattle.answers.specs.Shares.{Shared};
 
 use crate::answer::Answer;

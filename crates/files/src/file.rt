@@ -6,8 +6,8 @@ ghost use Rattle.files.specs.Placing.{all_entries, file_of, Written};
 use crate::entry::{slot_length, write_slot};
 use crate::heads::head_at;
 use crate::slots::Slots;
-use bodies::fault::{Fault, Refusal};
-use writers::bytes::write_mark;
+use bodies::fault::Refusal;
+use writers::bytes::{check_room, write_mark};
 
 // How many slots there are.
 const PLACES: usize = 1138;
@@ -60,11 +60,6 @@ pub fn write_file<S: Slots>(slots: &S, out: &mut [u8], place: usize) -> Result<u
     ensures { Written place (file_of (S.Slots.holding slots.now)) out.old out.new result }
 {
     let n = file_length(slots);
-    if place > out.len() || out.len() - place < n {
-        return Err(Refusal {
-            fault: Fault::Room,
-            place: 0,
-        });
-    }
+    check_room(out, place, n)?;
     Ok(write_whole(slots, &mut out[place..]))
 }

@@ -2,9 +2,10 @@
 ghost use Rattle.std.specs.Prelude.{◌≡◌, ◌+◌, ◌≤◌, length};
 
 use answers::answer::Answer;
-use bodies::fault::{Fault, Refusal};
+use bodies::fault::Refusal;
 use book::book::Book;
 use charges::rules::Rules;
+use writers::bytes::check_room;
 
 // A one, 24 letters and four charges.
 fn answer_bytes(answer: &Answer) -> [u8; 57] {
@@ -41,12 +42,7 @@ pub fn write_questions<R: Rules>(
     out: &mut [u8],
     place: usize,
 ) -> Result<usize, Refusal> {
-    if place > out.len() || out.len() - place < 1881 {
-        return Err(Refusal {
-            fault: Fault::Room,
-            place: 0,
-        });
-    }
+    check_room(out, place, 1881)?;
     let part = &mut out[place..place + 1881];
     for (resource, bytes) in part.chunks_exact_mut(57).enumerate() {
         bytes.copy_from_slice(&question_bytes(book, resource as u8));

@@ -1,5 +1,6 @@
 -- Lines of the listing from equal verdicts and findings.
 use Rattle.std.proofs.Common.{◌≡◌, ℕ, Bool, true, false, cond, [], ◌∷◌, is_some, Some, None, decimal, refl, ap, append_assoc, arith}
+use Rattle.std.specs.Prelude.{sum}
 use mathlib.Core.Path.{fun_ext}
 use Rattle.std.specs.Option.{option_map}
 use Rattle.vocabulary.specs.declared.parameter.Parameter.{Parameter}
@@ -9,7 +10,7 @@ use Rattle.charges.specs.declared.finding.Finding.{Finding}
 use Rattle.charges.specs.Findings.{Meanings, finding}
 use Rattle.vocabulary.specs.Orders.{of_products}
 use Rattle.answers.specs.Answers.{conduct, answer_from, answer, listed}
-use Rattle.answers.specs.Lines.{verdicts_of, sum, line_of as answer_line}
+use Rattle.answers.specs.Lines.{verdicts_of, line_of as answer_line}
 use Rattle.bodies.specs.Bodies.{standing_of}
 use Rattle.ledger.specs.Slots.{Slots}
 use Rattle.ledger.specs.Views.{joined_below}

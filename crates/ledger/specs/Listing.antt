@@ -1,5 +1,5 @@
 -- The listing, drawn from slots and the meanings of the bounds.
-use Rattle.std.specs.Prelude.{◌≡◌, ℕ, cond, List, [], ◌∷◌, ◌++◌, is_some, Some, None, Option, decimal, ◌≢◌}
+use Rattle.std.specs.Prelude.{◌≡◌, ℕ, cond, List, [], ◌∷◌, ◌++◌, is_some, Some, None, Option, decimal, ◌≢◌, sum}
 use Rattle.vocabulary.specs.declared.parameter.Parameter.{Parameter}
 use Rattle.vocabulary.specs.declared.product.Product.{Product}
 use Rattle.vocabulary.specs.declared.verdict.Verdict.{Verdict}
@@ -8,7 +8,7 @@ use Rattle.charges.specs.declared.finding.Finding.{Finding}
 use Rattle.charges.specs.Findings.{Meanings, finding}
 use Rattle.answers.specs.declared.answer.Answer.{Answer}
 use Rattle.answers.specs.Answers.{conduct}
-use Rattle.answers.specs.Lines.{two_digits, letters, sum, line_of as answer_line}
+use Rattle.answers.specs.Lines.{two_digits, letters, line_of as answer_line}
 use Rattle.entries.specs.Table.{kinds}
 use Rattle.ledger.specs.Slots.{Slots}
 use Rattle.ledger.specs.Ledger.{Act, ledger}

@@ -1,7 +1,6 @@
 -- How many bytes the two parts of a line take.
-use Rattle.std.specs.Prelude.{ℕ, ◌+◌, List, length, decimal}
+use Rattle.std.specs.Prelude.{ℕ, ◌+◌, List, length, decimal, sum}
 use Rattle.answers.specs.declared.answer.Answer.{Answer}
-use Rattle.answers.specs.Lines.{sum}
 
 -- two digits and five blanks, and a letter for each verdict
 abbrev pub verdicts_length : Answer → ℕ

@@ -1,7 +1,6 @@
 -- The lines of all resources that are listed.
-use Rattle.std.specs.Prelude.{ℕ, ◌^◌, ◌<◌, List, IfSome, None, Option, slice_index_or}
+use Rattle.std.specs.Prelude.{ℕ, ◌^◌, ◌<◌, List, IfSome, None, Option, slice_index_or, sum}
 use Rattle.answers.specs.declared.answer.Answer.{Answer}
-use Rattle.answers.specs.Lines.{sum}
 use Rattle.ledger.specs.Listing.{line_if}
 use Rattle.ledger.specs.Views.{joined_below}
 

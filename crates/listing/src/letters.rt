@@ -19,10 +19,8 @@ pub fn write_letters(out: &mut [u8], verdicts: &[Verdict]) -> usize
     ensures bytes { out.new ≡ onto (letters_of verdicts.now) out.old }
 {
     out[0] = b' ';
-    let mut at = 1;
-    for verdict in verdicts {
-        out[at] = verdict.letter();
-        at += 1;
+    for (i, verdict) in verdicts.iter().enumerate() {
+        out[i + 1] = verdict.letter();
     }
-    at
+    letters_length(verdicts)
 }

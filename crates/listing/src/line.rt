@@ -1,6 +1,6 @@
 // A line of a listing.
-ghost use Rattle.std.specs.Prelude.{◌≡◌, ℕ, ◌^◌, ◌<◌, ◌≤◌, length};
-ghost use Rattle.answers.specs.Lines.{sum, owed, verdicts_of, line_of};
+ghost use Rattle.std.specs.Prelude.{◌≡◌, ℕ, ◌^◌, ◌<◌, ◌≤◌, length, sum};
+ghost use Rattle.answers.specs.Lines.{owed, verdicts_of, line_of};
 ghost use Rattle.writers.specs.Buffers.{onto};
 ghost use Rattle.listing.specs.Lengths.{verdicts_length, owed_length};
 
@@ -13,11 +13,7 @@ fn total(charges: &[u64]) -> u64
     requires { sum charges.now < 2 ^ 64 }
     ensures { result ≡ sum charges.now }
 {
-    let mut all = 0;
-    for charge in charges {
-        all += *charge;
-    }
-    all
+    charges.iter().sum()
 }
 
 // The length of what `write_owed` writes.

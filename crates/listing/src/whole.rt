@@ -7,7 +7,8 @@ ghost use Rattle.listing.specs.Wholes.{Fits, Fit, lines_of};
 
 use crate::line::{line_length, write_line};
 use answers::answer::Answer;
-use bodies::fault::{Fault, Refusal};
+use bodies::fault::Refusal;
+use writers::bytes::check_room;
 
 // How many bytes a resource's line takes, if it is listed.
 fn length_if(answer: Option<Answer>) -> usize
@@ -42,8 +43,8 @@ pub fn listing_length(answers: &[Option<Answer>; 32]) -> usize
     ensures most { result ≤ 1696 }
 {
     let mut sum = 0;
-    for resource in 0..32 {
-        sum += length_if(answers[resource]);
+    for answer in answers {
+        sum += length_if(*answer);
     }
     sum
 }
@@ -55,8 +56,8 @@ fn write_lines(answers: &[Option<Answer>; 32], out: &mut [u8]) -> usize
     ensures bytes { out.new ≡ onto (lines_of answers.now) out.old }
 {
     let mut at = 0;
-    for resource in 0..32u8 {
-        at += write_if(&mut out[at..], resource, answers[resource as usize]);
+    for (resource, answer) in answers.iter().enumerate() {
+        at += write_if(&mut out[at..], resource as u8, *answer);
     }
     at
 }
@@ -72,11 +73,6 @@ pub fn write_listing(
     ensures short { length (lines_of answers.now) ≤ 1696 }
 {
     let n = listing_length(answers);
-    if place > out.len() || out.len() - place < n {
-        return Err(Refusal {
-            fault: Fault::Room,
-            place: 0,
-        });
-    }
+    check_room(out, place, n)?;
     Ok(write_lines(answers, &mut out[place..]))
 }

@@ -1,8 +1,24 @@
 // Bytes at the front of a buffer.
-ghost use Rattle.std.specs.Prelude.{◌≡◌, ◌+◌, ◌<◌, ◌≤◌, length};
+ghost use Rattle.std.specs.Prelude.{◌≡◌, ◌+◌, ◌<◌, ◌≤◌, length, MatchResult};
+ghost use Rattle.bodies.specs.declared.fault.Fault.TheVariants.{Room};
 ghost use Rattle.entries.specs.Entries.{head, raw};
 ghost use Rattle.entries.specs.Files.{head_bytes, entry_bytes, entry_at, mark};
 ghost use Rattle.writers.specs.Buffers.{onto};
+
+use bodies::fault::{Fault, Refusal};
+
+// Whether a buffer has room for n bytes from a place on.
+pub fn check_room(out: &[u8], place: usize, n: usize) -> Result<(), Refusal>
+    ensures { MatchResult result (λ _. place + n ≤ length out.now) (λ r. (r ≡ record { fault = Room; place = 0 }) × (length out.now < place + n)) }
+{
+    if place > out.len() || out.len() - place < n {
+        return Err(Refusal {
+            fault: Fault::Room,
+            place: 0,
+        });
+    }
+    Ok(())
+}
 
 // How many bytes were written.
 pub fn write_bytes(out: &mut [u8], bytes: &[u8]) -> usize
