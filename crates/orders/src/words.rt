@@ -60,8 +60,8 @@ pub fn verdict(letter: u8) -> &'static str {
 // The charge that ends a line.
 pub fn owed_in(line: &[u8]) -> Owed {
     let mut twentieths = 0u64;
-    for (i, byte) in line.iter().enumerate() {
-        if i >= 32 && *byte >= b'0' && *byte <= b'9' {
+    for byte in line.iter().skip(32) {
+        if let b'0'..=b'9' = *byte {
             twentieths = twentieths
                 .saturating_mul(10)
                 .saturating_add(u64::from(*byte - b'0'));
