@@ -11,7 +11,7 @@ mod tests {
     use curves::row::Row;
     use curves::step::Step;
     use std::process::Abort;
-    use verdicts::places::standard;
+    use verdicts::places::{Standard, standard};
     use vocabulary::lines::Terms;
     use vocabulary::resource::Remark;
     use vocabulary::standing::Standing;
@@ -19,7 +19,7 @@ mod tests {
         write_curve, write_line, write_number, write_quantity, write_remark, write_standing,
     };
 
-    type Market = Book<Exemption<Ceiling>, Ceiling, Ceiling, Shortfall>;
+    type Market = Book<Standard>;
 
     fn row(count: usize) -> Row
         ensures { result.count ≡ count }

@@ -17,13 +17,13 @@ mod tests {
     use histories::file::File;
     use std::process::Abort;
     use supplier::Margin;
-    use verdicts::places::{Places, standard};
+    use verdicts::places::{Places, Standard, standard};
     use vocabulary::lines::Terms;
     use vocabulary::standing::Standing;
     use vocabulary::verdict::Verdict;
     use writers::entry::{write_curve, write_line, write_number, write_quantity, write_standing};
 
-    type Market = Book<Exemption<Ceiling>, Ceiling, Ceiling, Shortfall>;
+    type Market = Book<Standard>;
 
     fn line(condition: u8, test: u8, percent: u32, cap: u32) -> [u8; 17] {
         let mut entry = [0; 17];

@@ -34,6 +34,8 @@ impl<C: BoundBelow, A: BoundBelow, I: BoundBelow, Q: BoundAbove> Places<C, A, I,
 }
 
 // The bounds of the market's rules.
-pub fn standard() -> Places<Exemption<Ceiling>, Ceiling, Ceiling, Shortfall> {
+pub type Standard = Places<Exemption<Ceiling>, Ceiling, Ceiling, Shortfall>;
+
+pub fn standard() -> Standard {
     Places::new(Exemption { under: Ceiling }, Ceiling, Ceiling, Shortfall)
 }
