@@ -16,13 +16,7 @@ impl Condition {
     pub fn number(self) -> usize
         ensures { result ≡ condition_number self }
     {
-        match self {
-            Condition::Narrow => 0,
-            Condition::Dynamic => 1,
-            Condition::Broad => 2,
-            Condition::GlobalPower => 3,
-            Condition::Intertie => 4,
-        }
+        self as usize
     }
 
     // The lowest-numbered condition of a set.
