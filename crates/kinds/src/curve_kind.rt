@@ -33,12 +33,10 @@ impl<B: Bound> Kind for Curves<B> {
     ghost steady = { λ k r v. substitute_again (steps_of r) (last_end (steps_of v)) };
 
     fn passes(&self, line: &Line, reference: &Curve, offer: &Curve) -> bool {
-        for step in offer.steps() {
-            if !self.step_passes(line, reference, step) {
-                return false;
-            }
-        }
-        true
+        offer
+            .steps()
+            .iter()
+            .all(|step| self.step_passes(line, reference, step))
     }
 
     fn replace(&self, reference: &Curve, offer: &Curve) -> Curve {
