@@ -53,13 +53,7 @@ fn lines() -> [Option<Terms>; 50]
 fn passes_beside(line: Option<Line>, reference: Option<Curve>, step: Step) -> Option<bool>
     ensures { result ≡ passes_beside line (option_map steps_of reference) step }
 {
-    let Some(line) = line else {
-        return None;
-    };
-    let Some(reference) = reference else {
-        return None;
-    };
-    Some(standard().curves.step_passes(&line, &reference, &step))
+    Some(standard().curves.step_passes(&line?, &reference?, &step))
 }
 
 impl CurveFigure {

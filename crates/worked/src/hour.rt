@@ -19,10 +19,7 @@ impl Steps {
         ensures { result ≡ row_of self }
     {
         let mut steps = [Step { price: 0, end: 0 }; 20];
-        steps[0] = self.list[0];
-        steps[1] = self.list[1];
-        steps[2] = self.list[2];
-        steps[3] = self.list[3];
+        steps[..4].copy_from_slice(&self.list);
         Row {
             steps,
             count: self.count,
@@ -42,9 +39,7 @@ pub fn energy_resource(
 {
     let empty = Row::empty();
     let mut by_run = [None; 12];
-    by_run[0] = prices[0];
-    by_run[1] = prices[1];
-    by_run[2] = prices[2];
+    by_run[..3].copy_from_slice(&prices);
     let none = Resource::empty();
     Resource {
         standing: Some(standing),
