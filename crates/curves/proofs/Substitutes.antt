@@ -1,15 +1,11 @@
 -- What stands in for an offer, step by step along the reference, and that it is in order.
-use Rattle.std.proofs.Common.{◌≡◌, ℕ, ◌+◌, ◌<◌, ◌≤◌, Bool, true, false, cond, ltb, leb, List, [], ◌∷◌, ◌++◌, length, get_or, take, set, ℤ, pos, sym, refl, ap, ◌∙◌, subst, ap₂, ⊎_elim, arith}
+use Rattle.std.proofs.Common.{◌≡◌, ℕ, ◌+◌, ◌<◌, ◌≤◌, true, ltb, List, [], ◌∷◌, ◌++◌, length, get_or, take, set, ℤ, pos, sym, refl, ap, ◌∙◌, subst, ap₂, ⊎_elim, arith}
 use lib.Signed.{le_z}
 use Rattle.std.proofs.lemmas.List.{take_more_set, take-take}
-use Rattle.std.proofs.lemmas.Bool.{le-leb, lt-leb, lt-ltb, le-ltb, and_parts, and_from, cases_lt, cond-true, cond-false}
+use Rattle.std.proofs.lemmas.Bool.{lt-ltb, and_parts, and_from, cases_lt}
 use Rattle.curves.specs.declared.step.Step.{Step}
 use Rattle.curves.specs.Steps.{step, rises, rises_on, in_order, price_after, end_after, last_end, kept, substitute}
 use Rattle.curves.proofs.Walks.{absent_step, kept_take, price_kept}
-
-same_cond : {A : Type 0} (b : Bool) (x : A) → cond b x x ≡ x
-same_cond true x = refl
-same_cond false x = refl
 
 -- what stands in, where p is the price before the steps that are left
 abbrev pub stand_in : ℕ → ℤ → List Step → List Step
@@ -17,13 +13,13 @@ stand_in q p xs = kept xs q ++ (step (price_after p xs q) q ∷ [])
 
 module _ (q : ℕ) (p : ℤ) (s : Step) where
   pub stand_in_more : (t : Step) (rest : List Step) → s.end < q → stand_in q p (s ∷ (t ∷ rest)) ≡ s ∷ stand_in q s.price (t ∷ rest)
-  stand_in_more t rest h = ap₂ (λ (zs : List Step) (v : ℤ). zs ++ (step v q ∷ [])) (cond-true _ _ _ (lt-ltb _ _ h)) (cond-false _ _ _ (lt-leb _ _ h))
+  stand_in_more t rest h = grind arith
 
   pub stand_in_stop : (t : Step) (rest : List Step) → q ≤ s.end → stand_in q p (s ∷ (t ∷ rest)) ≡ step s.price q ∷ []
-  stand_in_stop t rest h = ap₂ (λ (zs : List Step) (v : ℤ). zs ++ (step v q ∷ [])) (cond-false _ _ _ (le-ltb _ _ h)) (cond-true _ _ _ (le-leb _ _ h))
+  stand_in_stop t rest h = grind arith
 
   pub stand_in_last : stand_in q p (s ∷ []) ≡ step s.price q ∷ []
-  stand_in_last = ap (λ (v : ℤ). step v q ∷ []) (same_cond (leb q s.end) s.price)
+  stand_in_last = grind arith
 
 module _ (q : ℕ) where
   rises_to : (u s : Step) → u.end < q → rises u s ≡ true → rises_on u (step s.price q ∷ []) ≡ true

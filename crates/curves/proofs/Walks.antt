@@ -1,8 +1,8 @@
 -- Walks along a list of steps, from step i on.
-use Rattle.std.proofs.Common.{◌≡◌, ℕ, zero, suc, ◌-◌, ◌<◌, ◌≤◌, Bool, true, false, ltb, leb, List, [], ◌∷◌, length, get_or, take, ℤ, pos, sym, refl, ap, ◌∙◌, subst, add-one, ⊎_elim, arith}
+use Rattle.std.proofs.Common.{◌≡◌, ℕ, zero, suc, ◌-◌, ◌<◌, ◌≤◌, Bool, true, false, ltb, List, [], ◌∷◌, length, get_or, take, ℤ, pos, sym, refl, ap, ◌∙◌, subst, add-one, ⊎_elim, arith}
 use Rattle.std.proofs.lemmas.List.{length-take-le, get_or-take}
 use Rattle.std.proofs.lemmas.List.Folds.{length-prefix_len}
-use Rattle.std.proofs.lemmas.Bool.{le-leb, lt-leb, lt-ltb, le-ltb, cases_lt, cond_both, and_from, and_left, and_right}
+use Rattle.std.proofs.lemmas.Bool.{le-leb, lt-leb, lt-ltb, le-ltb, cases_lt, and_left, and_right}
 use Rattle.std.specs.List.{prefix_len, take_while, IsAllAdjacentAnswer}
 use Rattle.curves.specs.declared.step.Step.{Step}
 use Rattle.curves.specs.Steps.{step, rises, in_order, price_after, price_at, end_after, last_end, kept}
@@ -15,7 +15,7 @@ absent_step = step (pos 0) 0
 in_order_all : (xs : List Step) → ((k : ℕ) → suc k < length xs → true ≡ rises (get_or xs k absent_step) (get_or xs (suc k) absent_step)) → in_order xs ≡ true
 in_order_all [] h = refl
 in_order_all (x ∷ []) h = refl
-in_order_all (x ∷ (y ∷ xs)) h = and_from _ _ (sym (h 0 (omega arith))) (in_order_all (y ∷ xs) (λ k l. h (suc k) (omega arith)))
+in_order_all (x ∷ (y ∷ xs)) h = grind (arith, h 0, in_order_all (y ∷ xs) (λ k l. h (suc k) (omega arith)))
 
 in_order_breaks : (xs : List Step) (k : ℕ) → suc k < length xs → false ≡ rises (get_or xs k absent_step) (get_or xs (suc k) absent_step) → in_order xs ≡ false
 in_order_breaks [] k l e = absurd (omega arith)
@@ -44,10 +44,7 @@ module _ (q : ℕ) where
   kept_before [] n h = absurd (omega arith)
   kept_before (x ∷ xs) zero h = refl
   kept_before (x ∷ []) (suc n) h = absurd (omega arith)
-  kept_before (x ∷ (y ∷ xs)) (suc n) h =
-      let rest = kept_before (y ∷ xs) n (omega arith) in
-      cond_both (ltb x.end q) _ _ (λ k. k ≡ length (kept (take (suc (suc n)) (x ∷ (y ∷ xs))) q))
-      (λ e. rw e (omega (arith, rest))) (λ e. rw e refl)
+  kept_before (x ∷ (y ∷ xs)) (suc n) h = grind (arith, kept_before (y ∷ xs) n)
 
   pub kept_front : (xs : List Step) (m : ℕ) → 1 ≤ m → m ≤ length xs → length (take_while (λ s. ltb s.end q) (take (m - 1) xs)) ≡ length (kept (take m xs) q)
   kept_front xs m some fit =
@@ -57,13 +54,12 @@ module _ (q : ℕ) where
   pub kept_take : (xs : List Step) → kept xs q ≡ take (length (kept xs q)) xs
   kept_take [] = refl
   kept_take (x ∷ []) = refl
-  kept_take (x ∷ (y ∷ xs)) =
-      cond_both (ltb x.end q) (x ∷ kept (y ∷ xs) q) [] (λ zs. zs ≡ take (length zs) (x ∷ (y ∷ xs))) (λ _. ap (λ zs. x ∷ zs) (kept_take (y ∷ xs))) (λ _. refl)
+  kept_take (x ∷ (y ∷ xs)) = grind (arith, kept_take (y ∷ xs))
 
   -- the price is that of the step behind them
   price_behind : (p : ℤ) (xs : List Step) → 1 ≤ length xs → (get_or xs (length (kept xs q)) absent_step).price ≡ price_after p xs q
   price_behind p [] h = absurd (omega arith)
-  price_behind p (x ∷ []) h = cond_both (leb q x.end) x.price x.price (λ v. x.price ≡ v) (λ _. refl) (λ _. refl)
+  price_behind p (x ∷ []) h = grind arith
   price_behind p (x ∷ (y ∷ xs)) h =
       ⊎_elim
       (λ k. rw (lt-ltb x.end q k, lt-leb q x.end k) (price_behind x.price (y ∷ xs) (omega arith)))

@@ -65,6 +65,7 @@ impl<B: Bound> Curves<B> {
     }
 
     // The widths of the steps that fail, added up.
+    #[tactic(auto, using(crate::proofs::Steps::widths_small))]
     pub fn failed_widths(&self, line: &Line, reference: &Curve, offer: &Curve) -> u32
         ensures value { result ≡ failed_widths (B.Bound.meaning self.now.bound line.now) (steps_of reference.now) 0 (steps_of offer.now) }
         ensures small { result ≤ 100000 }
