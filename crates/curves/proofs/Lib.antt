@@ -1,4 +1,2 @@
 pub mod Walks
 pub mod Substitutes
-pub mod Rows
-pub mod Ends

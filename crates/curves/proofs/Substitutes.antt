@@ -1,14 +1,11 @@
 -- What stands in for an offer, step by step along the reference, and that it is in order.
-use Rattle.std.proofs.Common.{◌≡◌, ℕ, ◌+◌, ◌<◌, ◌≤◌, Bool, true, false, cond, ltb, leb, List, [], ◌∷◌, ◌++◌, length, take, set, ℤ, pos, sym, refl, ap, ◌∙◌, subst, ap₂, ⊎_elim}
+use Rattle.std.proofs.Common.{◌≡◌, ℕ, ◌+◌, ◌<◌, ◌≤◌, true, ltb, List, [], ◌∷◌, ◌++◌, length, get_or, take, set, ℤ, pos, sym, refl, ap, ◌∙◌, subst, ap₂, ⊎_elim, arith}
 use lib.Signed.{le_z}
-use Rattle.std.proofs.lemmas.List.{take_more_set}
-use Rattle.std.proofs.lemmas.Bool.{le-leb, lt-leb, lt-ltb, le-ltb, and_parts, and_from, cases_lt, cond-true, cond-false}
+use Rattle.std.proofs.lemmas.List.{take_more_set, take-take}
+use Rattle.std.proofs.lemmas.Bool.{lt-ltb, and_parts, and_from, cases_lt}
 use Rattle.curves.specs.declared.step.Step.{Step}
-use Rattle.curves.specs.Steps.{step, rises, rises_on, in_order, price_after, price_at, end_after, last_end, kept, substitute}
-
-same_cond : {A : Type 0} (b : Bool) (x : A) → cond b x x ≡ x
-same_cond true x = refl
-same_cond false x = refl
+use Rattle.curves.specs.Steps.{step, rises, rises_on, in_order, price_after, end_after, last_end, kept, substitute}
+use Rattle.curves.proofs.Walks.{absent_step, kept_take, price_kept}
 
 -- what stands in, where p is the price before the steps that are left
 abbrev pub stand_in : ℕ → ℤ → List Step → List Step
@@ -16,13 +13,13 @@ stand_in q p xs = kept xs q ++ (step (price_after p xs q) q ∷ [])
 
 module _ (q : ℕ) (p : ℤ) (s : Step) where
   pub stand_in_more : (t : Step) (rest : List Step) → s.end < q → stand_in q p (s ∷ (t ∷ rest)) ≡ s ∷ stand_in q s.price (t ∷ rest)
-  stand_in_more t rest h = ap₂ (λ (zs : List Step) (v : ℤ). zs ++ (step v q ∷ [])) (cond-true _ _ _ (lt-ltb _ _ h)) (cond-false _ _ _ (lt-leb _ _ h))
+  stand_in_more t rest h = grind arith
 
   pub stand_in_stop : (t : Step) (rest : List Step) → q ≤ s.end → stand_in q p (s ∷ (t ∷ rest)) ≡ step s.price q ∷ []
-  stand_in_stop t rest h = ap₂ (λ (zs : List Step) (v : ℤ). zs ++ (step v q ∷ [])) (cond-false _ _ _ (le-ltb _ _ h)) (cond-true _ _ _ (le-leb _ _ h))
+  stand_in_stop t rest h = grind arith
 
   pub stand_in_last : stand_in q p (s ∷ []) ≡ step s.price q ∷ []
-  stand_in_last = ap (λ (v : ℤ). step v q ∷ []) (same_cond (leb q s.end) s.price)
+  stand_in_last = grind arith
 
 module _ (q : ℕ) where
   rises_to : (u s : Step) → u.end < q → rises u s ≡ true → rises_on u (step s.price q ∷ []) ≡ true
@@ -58,7 +55,8 @@ pub substitute_end : (xs : List Step) (q : ℕ) → last_end (substitute xs q) �
 substitute_end xs q = end_push 0 (kept xs q) _
 
 -- one step written behind those that are kept
-pub written : (xs : List Step) (m n q : ℕ) (p : ℤ) → n < length xs → kept (take m xs) q ≡ take n xs → p ≡ price_at (take m xs) q
-    → take (n + 1) (set xs n (step p q)) ≡ substitute (take m xs) q
-written xs m n q p h these e =
-    take_more_set xs n (step p q) h ∙ ap₂ (λ (zs : List Step) (v : ℤ). zs ++ (step v q ∷ [])) (sym these) e
+pub written : (xs : List Step) (m n q : ℕ) → m ≤ length xs → n < m → n ≡ length (kept (take m xs) q)
+    → take (n + 1) (set xs n (step (get_or xs n absent_step).price q)) ≡ substitute (take m xs) q
+written xs m n q fit h e =
+    let these : kept (take m xs) q ≡ take n xs = kept_take q (take m xs) ∙ ap (λ k. take k (take m xs)) (sym e) ∙ take-take n m xs (omega arith) in
+    take_more_set xs n _ (omega arith) ∙ ap₂ (λ (zs : List Step) (v : ℤ). zs ++ (step v q ∷ [])) (sym these) (price_kept q xs m n fit h e)

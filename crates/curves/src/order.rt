@@ -15,15 +15,5 @@ pub fn rises_to(last: &Step, next: &Step) -> bool
 pub fn in_order(steps: &[Step]) -> bool
     ensures { result ≡ in_order_of steps.now }
 {
-    let [first, rest @ ..] = steps else {
-        return true;
-    };
-    let mut last = *first;
-    for next in rest {
-        if !rises_to(&last, next) {
-            return false;
-        }
-        last = *next;
-    }
-    true
+    steps.is_sorted_by(rises_to)
 }

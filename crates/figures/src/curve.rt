@@ -7,17 +7,11 @@ use worked::curve_figure::CurveFigure;
 use worked::hour::Steps;
 
 fn shown(steps: &Steps) -> &[Step] {
-    if steps.count < 4 {
-        &steps.list[0..steps.count]
-    } else {
-        &steps.list
-    }
+    &steps.list[..steps.count.min(4)]
 }
 
 fn print_prices(rt: &HostRuntime, figure: &CurveFigure) -> io::Result<()> {
-    let as_offered = figure.as_offered;
-    let reference_level = figure.reference_level;
-    if let (Some(high), Some(low)) = (as_offered, reference_level) {
+    if let (Some(high), Some(low)) = (figure.as_offered, figure.reference_level) {
         let high = Money(i64::from(high));
         let low = Money(i64::from(low));
         println!(rt; "   prices {high} as offered, {low} at reference levels")?;

@@ -7,16 +7,11 @@ use worked::hour::Steps;
 use worked::quantity_figure::{Held, QuantityFigure};
 
 fn last_end(steps: &Steps) -> u32 {
-    let mut end = 0;
-    for step in &steps.list {
-        end = step.end.max(end);
-    }
-    end
+    steps.list.iter().map(|step| step.end).max().unwrap_or(0)
 }
 
 fn print_held(rt: &HostRuntime, held: &Held, finding: &Finding) -> io::Result<()> {
-    let expected = held.reference;
-    let Some(reference) = expected else {
+    let Some(reference) = held.reference else {
         return Ok(());
     };
     let offered = Power(i64::from(last_end(&held.offer)));

@@ -1,5 +1,6 @@
 -- The conduct of an offer curve against its reference curve.
-use Rattle.std.specs.Prelude.{ℕ, ◌+◌, ◌-◌, Bool, true, cond, ◌&&◌, List, [], ◌∷◌, ℤ}
+use Rattle.std.specs.Prelude.{ℕ, ◌+◌, ◌-◌, Bool, cond, List, [], ◌∷◌, ℤ}
+use Rattle.std.specs.List.{list_all}
 use Rattle.curves.specs.declared.step.Step.{Step}
 use Rattle.curves.specs.Steps.{price_at}
 
@@ -8,8 +9,7 @@ abbrev pub step_passes : (ℤ → ℤ → Bool) → List Step → Step → Bool
 step_passes ask reference s = ask (price_at reference s.end) s.price
 
 abbrev pub all_pass : (ℤ → ℤ → Bool) → List Step → List Step → Bool
-all_pass ask reference [] = true
-all_pass ask reference (s ∷ rest) = step_passes ask reference s && all_pass ask reference rest
+all_pass ask reference = list_all (step_passes ask reference)
 
 -- the widths of the steps that fail, added up; e is where the step before ends
 abbrev pub failed_widths : (ℤ → ℤ → Bool) → List Step → ℕ → List Step → ℕ

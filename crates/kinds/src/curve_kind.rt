@@ -33,12 +33,10 @@ impl<B: Bound> Kind for Curves<B> {
     ghost steady = { λ k r v. substitute_again (steps_of r) (last_end (steps_of v)) };
 
     fn passes(&self, line: &Line, reference: &Curve, offer: &Curve) -> bool {
-        for step in offer.steps() {
-            if !self.step_passes(line, reference, step) {
-                return false;
-            }
-        }
-        true
+        offer
+            .steps()
+            .iter()
+            .all(|step| self.step_passes(line, reference, step))
     }
 
     fn replace(&self, reference: &Curve, offer: &Curve) -> Curve {
@@ -67,6 +65,7 @@ impl<B: Bound> Curves<B> {
     }
 
     // The widths of the steps that fail, added up.
+    #[tactic(auto, using(crate::proofs::Steps::widths_small))]
     pub fn failed_widths(&self, line: &Line, reference: &Curve, offer: &Curve) -> u32
         ensures value { result ≡ failed_widths (B.Bound.meaning self.now.bound line.now) (steps_of reference.now) 0 (steps_of offer.now) }
         ensures small { result ≤ 100000 }

@@ -15,13 +15,7 @@ pub fn judged<K: Kind>(
 ) -> Verdict
     ensures { result ≡ judged_of (K.Kind.test kind.now) line (option_map K.Kind.content reference) (option_map K.Kind.content offer) }
 {
-    let Some(line) = line else {
-        return Verdict::NotTested;
-    };
-    let Some(reference) = reference else {
-        return Verdict::NotTested;
-    };
-    let Some(offer) = offer else {
+    let (Some(line), Some(reference), Some(offer)) = (line, reference, offer) else {
         return Verdict::NotTested;
     };
     if kind.passes(&line, &reference, &offer) {

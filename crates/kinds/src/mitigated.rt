@@ -22,14 +22,11 @@ pub fn mitigated<K: Kind>(
     ensures settled { replaceable ≡ true → failed (judged_of (K.Kind.test kind.now) line (option_map K.Kind.content reference) (option_map K.Kind.content result)) ≡ false }
     ensures steady { mitigated_of (K.Kind.test kind.now) (K.Kind.substitute kind.now) line replaceable (option_map K.Kind.content reference) (option_map K.Kind.content result) ≡ option_map K.Kind.content result }
 {
-    if !(replaceable && judged(kind, line, reference, offer).is_failed()) {
-        return offer;
+    match (reference, offer) {
+        (Some(level), Some(offered))
+            if replaceable && judged(kind, line, reference, offer).is_failed() => {
+            Some(kind.replace(&level, &offered))
+        }
+        _ => offer,
     }
-    let Some(level) = reference else {
-        return offer;
-    };
-    let Some(offered) = offer else {
-        return None;
-    };
-    Some(kind.replace(&level, &offered))
 }

@@ -12,10 +12,10 @@ mod tests {
 
     const NONE: Step = Step { price: 0, end: 0 };
 
-    fn sisters() -> Option<QuantityFigure> {
+    fn sisters() -> Result<QuantityFigure, Fail> {
         match figures()[11] {
-            Figure::Quantity(figure) => Some(figure),
-            _ => None,
+            Figure::Quantity(figure) => Ok(figure),
+            _ => Err(Fail::new("figure 12 is on quantities")),
         }
     }
 
@@ -43,9 +43,7 @@ mod tests {
     // 50 of 90 MW fails alone. The other sister's 217 of 220 is 3 MW short and passes; 267 of 310 would not.
     #[test]
     fn a_member_that_fails_alone_leaves_the_sum(rt: HostRuntime) -> Result<(), Fail> {
-        let Some(figure) = sisters() else {
-            return Err(Fail::new("figure 12 is on quantities"));
-        };
+        let figure = sisters()?;
         let offer = Steps {
             list: [
                 Step {
@@ -74,9 +72,7 @@ mod tests {
     // The first sister's verdict follows the second's quantity there and back.
     #[test]
     fn a_sisters_verdict_is_never_left_old(rt: HostRuntime) -> Result<(), Fail> {
-        let Some(figure) = sisters() else {
-            return Err(Fail::new("figure 12 is on quantities"));
-        };
+        let figure = sisters()?;
         assert!(rt; figure.found()[0].verdicts.entity == Verdict::Failed);
         let gone = Held {
             reference: None,

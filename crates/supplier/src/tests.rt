@@ -11,18 +11,12 @@ mod asked {
     use std::test::Fail;
 
     fn passing<B: Bound>(bound: &B, line: &Line, values: [i32; 3]) -> [bool; 3] {
-        [
-            bound.passes(line, 1000, values[0]),
-            bound.passes(line, 1000, values[1]),
-            bound.passes(line, 1000, values[2]),
-        ]
+        values.map(|value| bound.passes(line, 1000, value))
     }
 
     #[test]
     fn margin_under_a_layer(rt: HostRuntime) -> Result<(), Fail> {
-        let Some(line) = Line::new(50, 2500, 1100) else {
-            return Err(Fail::new("the line is in range"));
-        };
+        let line = Line::new(50, 2500, 1100).ok_or_else(|| Fail::new("the line is in range"))?;
         let margin = Margin { cents: 25 };
         assert!(rt; passing(&margin, &line, [1025, 1026, 1100]) == [true, false, false]);
         let exempt = Exemption { under: margin };

@@ -39,10 +39,8 @@ pub fn judged_quantity<Q: Bound>(
     requires value { value ≤ 3200000 }
     ensures { result ≡ judged_of (Q.Bound.meaning quantities.now.bound) line (option_map pos reference) (Some (pos value)) }
 {
-    let Some(reference) = reference else {
-        return judged(quantities, line, None, Some(value as i32));
-    };
-    judged(quantities, line, Some(reference as i32), Some(value as i32))
+    let reference = reference.map(|tenths| tenths as i32);
+    judged(quantities, line, reference, Some(value as i32))
 }
 
 // The verdict on a quantity that a resource offers; not tested in an intertie zone.

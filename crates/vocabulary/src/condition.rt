@@ -12,54 +12,41 @@ pub enum Condition {
     Intertie,
 }
 
+// By number.
+const ALL: [Condition; 5] = [
+    Condition::Narrow,
+    Condition::Dynamic,
+    Condition::Broad,
+    Condition::GlobalPower,
+    Condition::Intertie,
+];
+
 impl Condition {
     pub fn number(self) -> usize
         ensures { result ≡ condition_number self }
     {
-        match self {
-            Condition::Narrow => 0,
-            Condition::Dynamic => 1,
-            Condition::Broad => 2,
-            Condition::GlobalPower => 3,
-            Condition::Intertie => 4,
-        }
+        self as usize
     }
 
     // The lowest-numbered condition of a set.
     pub fn lowest(set: u8) -> Option<Condition>
         ensures { result ≡ lowest_of set }
     {
-        if set % 2 == 1 {
-            Some(Condition::Narrow)
-        } else if set / 2 % 2 == 1 {
-            Some(Condition::Dynamic)
-        } else if set / 4 % 2 == 1 {
-            Some(Condition::Broad)
-        } else if set / 8 % 2 == 1 {
-            Some(Condition::GlobalPower)
-        } else if set / 16 % 2 == 1 {
-            Some(Condition::Intertie)
-        } else {
-            None
-        }
+        ALL.iter()
+            .copied()
+            .find(|condition| (set >> condition.number()) % 2 == 1)
     }
 
     // The condition, unless it is an uncompetitive intertie zone.
     pub fn outside_zones(condition: Option<Condition>) -> Option<Condition>
         ensures { result ≡ outside_zones_of condition }
     {
-        match condition {
-            Some(Condition::Intertie) => None,
-            other => other,
-        }
+        condition.filter(|c| *c != Condition::Intertie)
     }
 
     pub fn in_zone(condition: Option<Condition>) -> bool
         ensures { result ≡ in_zone_of condition }
     {
-        match condition {
-            Some(Condition::Intertie) => true,
-            _ => false,
-        }
+        condition == Some(Condition::Intertie)
     }
 }

@@ -18,11 +18,6 @@ pub struct Terms {
 pub fn line(lines: &[Option<Terms>; 50], condition: Option<Condition>, test: Test) -> Option<Line>
     ensures { result ≡ line_under (lines_of lines.now) condition test }
 {
-    let Some(condition) = condition else {
-        return None;
-    };
-    let Some(terms) = lines[10 * condition.number() + test.number()] else {
-        return None;
-    };
+    let terms = lines[10 * condition?.number() + test.number()]?;
     Line::new(terms.percent, terms.cap, terms.floor)
 }

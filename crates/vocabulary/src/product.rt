@@ -17,12 +17,7 @@ impl Product {
     pub fn number(self) -> usize
         ensures { result ≡ product_number self }
     {
-        match self {
-            Product::Energy => 0,
-            Product::Spinning => 1,
-            Product::NonSpinning => 2,
-            Product::ThirtyMinute => 3,
-        }
+        self as usize
     }
 
     // The most steps of a curve.

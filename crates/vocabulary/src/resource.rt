@@ -80,29 +80,20 @@ impl Resource {
     pub fn condition(&self, product: Product) -> Option<Condition>
         ensures { result ≡ condition_in_force (own_of self.now) product }
     {
-        let Some(standing) = self.standing else {
-            return None;
-        };
-        Condition::lowest(standing.set_for(product))
+        Condition::lowest(self.standing?.set_for(product))
     }
 
     // The entity that the resource belongs to; 0 without one.
     pub fn entity(&self) -> u8
         ensures { result ≡ entity_of (own_of self.now) }
     {
-        match self.standing {
-            Some(standing) => standing.entity,
-            None => 0,
-        }
+        self.standing.map_or(0, |standing| standing.entity)
     }
 
     pub fn multiplier(&self) -> u8
         ensures { result ≡ multiplier_of (own_of self.now) }
     {
-        match self.standing {
-            Some(standing) => standing.multiplier,
-            None => 0,
-        }
+        self.standing.map_or(0, |standing| standing.multiplier)
     }
 
     // The reference quantity of a product.
@@ -110,11 +101,7 @@ impl Resource {
         ensures value { result ≡ (own_of self.now).quantity product }
         ensures small { IfSome result (λ q. q ≤ 100000) }
     {
-        let quantity = self.quantities[product.number()];
-        match quantity {
-            Some(tenths) if tenths <= 100_000 => Some(tenths),
-            _ => None,
-        }
+        self.quantities[product.number()].filter(|tenths| *tenths <= 100_000)
     }
 
     pub fn price(&self, product: Product, run: Run) -> Option<i32>

@@ -13,10 +13,6 @@ impl Run {
     pub fn number(self) -> usize
         ensures { result ≡ run_number self }
     {
-        match self {
-            Run::AsOffered => 0,
-            Run::ReferenceLevel => 1,
-            Run::ReferenceQuantity => 2,
-        }
+        self as usize
     }
 }

@@ -20,17 +20,6 @@ impl Test {
     pub fn number(self) -> usize
         ensures { result ≡ test_number self }
     {
-        match self {
-            Test::EnergyCurve => 0,
-            Test::ReserveCurve => 1,
-            Test::StartUp => 2,
-            Test::SpeedNoLoad => 3,
-            Test::RunTime => 4,
-            Test::RampRate => 5,
-            Test::EnergyImpact => 6,
-            Test::ReserveImpact => 7,
-            Test::ResourceQuantity => 8,
-            Test::EntityQuantity => 9,
-        }
+        self as usize
     }
 }

@@ -32,14 +32,14 @@ abbrev none : Step
 none = to 0 0
 
 -- $19, $35, $40 and $800, the last to q; its reference $5, $15 and $45, the last to q
-abbrev offer : ℕ → Steps
+abbrev pub offer : ℕ → Steps
 offer q = steps4 (to 1900 500) (to 3500 750) (to 4000 1200) (to 80000 q) 4
 
-abbrev reference : ℕ → Steps
+abbrev pub reference : ℕ → Steps
 reference q = steps4 (to 500 500) (to 1500 1000) (to 4500 q) none 3
 
 -- only the last step fails
-abbrev curve : ℕ → Option ℤ → Option ℤ → Steps → Figure
+abbrev pub curve : ℕ → Option ℤ → Option ℤ → Steps → Figure
 curve q as-offered at-reference becomes =
     Curve (record { offer = offer q; reference = reference 1500; as_offered = as-offered; reference_level = at-reference; passes = true ∷ true ∷ true ∷ false ∷ []; becomes = becomes })
 
@@ -47,7 +47,7 @@ abbrev held : Steps → Option ℕ → ℕ → Held
 held offer reference owes = record { offer = offer; reference = reference; owes = owes }
 
 -- 75 MW offered of 90 in a broad constrained area
-abbrev one_alone : QuantityFigure
+abbrev pub one_alone : QuantityFigure
 one_alone = record {
   condition = Broad;
   set = 4;
@@ -64,7 +64,7 @@ one_alone = record {
 }
 
 -- 217 of 220 and 87 of 90 MW, sisters in a narrow constrained area
-abbrev two_sisters : QuantityFigure
+abbrev pub two_sisters : QuantityFigure
 two_sisters = record {
   condition = Narrow;
   set = 1;

@@ -29,7 +29,7 @@ terms percent limit = record { percent = percent; «cap» = limit; floor = pos 0
 abbrev pub standing : ℕ → ℕ → Standing
 standing entity set = record { entity = entity; multiplier = 1; energy = set; spinning = 0; non_spinning = 0; thirty_minute = 0 }
 
-abbrev only_energy : Row → Values
+abbrev pub only_energy : Row → Values
 only_energy row = record { curves = row ∷ empty_row ∷ empty_row ∷ empty_row ∷ []; amounts = replicate 4 None }
 
 -- a resource with an energy offer and what belongs to it; the prices by run

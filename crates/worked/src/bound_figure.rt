@@ -43,9 +43,7 @@ impl BoundFigure {
     pub fn answer(&self, value: i32) -> Option<bool>
         ensures { result ≡ answered self.now value }
     {
-        let Some(line) = Line::new(self.percent, self.cap, self.floor) else {
-            return None;
-        };
+        let line = Line::new(self.percent, self.cap, self.floor)?;
         Some(passes(self.asked, &line, self.reference, value))
     }
 

@@ -4,7 +4,7 @@ ghost use Rattle.std.specs.Option.{option_map};
 ghost use Rattle.curves.specs.Curves.{steps_of};
 ghost use Rattle.worked.specs.CurveFigures.{lines as lines_of, resource as resource_of, passes_beside, passes as passes_of, becomes as becomes_of};
 
-use crate::hour::{Steps, energy_resource};
+use crate::hour::{Steps, energy_resource, standing};
 use bounds::ceiling::Ceiling;
 use bounds::exemption::Exemption;
 use bounds::line::Line;
@@ -18,7 +18,6 @@ use vocabulary::condition::Condition;
 use vocabulary::lines::{Terms, line};
 use vocabulary::product::Product;
 use vocabulary::resource::Resource;
-use vocabulary::standing::Standing;
 use vocabulary::test::Test;
 
 // An offer and its reference, the prices as offered and at reference levels, and what should come of them.
@@ -53,30 +52,16 @@ fn lines() -> [Option<Terms>; 50]
 fn passes_beside(line: Option<Line>, reference: Option<Curve>, step: Step) -> Option<bool>
     ensures { result ≡ passes_beside line (option_map steps_of reference) step }
 {
-    let Some(line) = line else {
-        return None;
-    };
-    let Some(reference) = reference else {
-        return None;
-    };
-    Some(standard().curves.step_passes(&line, &reference, &step))
+    Some(standard().curves.step_passes(&line?, &reference?, &step))
 }
 
 impl CurveFigure {
     fn resource(&self) -> Resource
         ensures { result ≡ resource_of self.now }
     {
-        let standing = Standing {
-            entity: 0,
-            multiplier: 1,
-            energy: 4,
-            spinning: 0,
-            non_spinning: 0,
-            thirty_minute: 0,
-        };
         let prices = [self.as_offered, self.reference_level, None];
         energy_resource(
-            standing,
+            standing(0, 4),
             self.offer.row(),
             self.reference.row(),
             None,

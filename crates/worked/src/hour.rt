@@ -1,6 +1,6 @@
 // The records of a small hour.
 ghost use Rattle.std.specs.Prelude.{◌≡◌};
-ghost use Rattle.worked.specs.Hours.{row_of, energy_resource as energy_resource_of};
+ghost use Rattle.worked.specs.Hours.{row_of, only_energy as only_energy_of, standing as standing_of, energy_resource as energy_resource_of};
 
 use curves::row::Row;
 use curves::step::Step;
@@ -19,14 +19,35 @@ impl Steps {
         ensures { result ≡ row_of self }
     {
         let mut steps = [Step { price: 0, end: 0 }; 20];
-        steps[0] = self.list[0];
-        steps[1] = self.list[1];
-        steps[2] = self.list[2];
-        steps[3] = self.list[3];
+        steps[..4].copy_from_slice(&self.list);
         Row {
             steps,
             count: self.count,
         }
+    }
+}
+
+fn only_energy(row: Row) -> Values
+    ensures { result ≡ only_energy_of row }
+{
+    let empty = Row::empty();
+    Values {
+        curves: [row, empty, empty, empty],
+        amounts: [None; 4],
+    }
+}
+
+// One that pays once for a shortage, with a set of conditions for energy.
+pub(crate) fn standing(entity: u8, set: u8) -> Standing
+    ensures { result ≡ standing_of entity set }
+{
+    Standing {
+        entity,
+        multiplier: 1,
+        energy: set,
+        spinning: 0,
+        non_spinning: 0,
+        thirty_minute: 0,
     }
 }
 
@@ -40,24 +61,14 @@ pub fn energy_resource(
 ) -> Resource
     ensures { result ≡ energy_resource_of standing offer reference quantity prices }
 {
-    let empty = Row::empty();
     let mut by_run = [None; 12];
-    by_run[0] = prices[0];
-    by_run[1] = prices[1];
-    by_run[2] = prices[2];
-    let none = Resource::empty();
+    by_run[..3].copy_from_slice(&prices);
     Resource {
         standing: Some(standing),
-        offer: Values {
-            curves: [offer, empty, empty, empty],
-            amounts: [None; 4],
-        },
-        reference: Values {
-            curves: [reference, empty, empty, empty],
-            amounts: [None; 4],
-        },
+        offer: only_energy(offer),
+        reference: only_energy(reference),
         quantities: [quantity, None, None, None],
         prices: by_run,
-        remark: none.remark,
+        ..Resource::empty()
     }
 }

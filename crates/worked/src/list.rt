@@ -1,6 +1,7 @@
 // The twelve worked figures, as data.
 ghost use Rattle.std.specs.Prelude.{◌≡◌};
-ghost use Rattle.worked.specs.Figures.{figures as figures_of, AllHold};
+ghost use Rattle.curves.specs.Steps.{step};
+ghost use Rattle.worked.specs.Figures.{offer as offer_of, reference as reference_of, curve as curve_of, one_alone as one_alone_of, two_sisters as two_sisters_of, figures as figures_of, AllHold};
 
 use crate::bound_figure::{Asked, BoundFigure};
 use crate::curve_figure::CurveFigure;
@@ -20,89 +21,37 @@ pub enum Figure {
 
 const NONE: Step = Step { price: 0, end: 0 };
 
-const OFFER: Steps = Steps {
-    list: [
-        Step {
-            price: 1900,
-            end: 500,
-        },
-        Step {
-            price: 3500,
-            end: 750,
-        },
-        Step {
-            price: 4000,
-            end: 1200,
-        },
-        Step {
-            price: 80_000,
-            end: 1500,
-        },
-    ],
-    count: 4,
-};
+// A step at a price, to where it ends.
+fn to(price: i32, end: u32) -> Step
+    ensures { result ≡ step price end }
+{
+    Step { price, end }
+}
 
-// The offer, its last step to 200 MW.
-const STRETCHED: Steps = Steps {
-    list: [
-        Step {
-            price: 1900,
-            end: 500,
-        },
-        Step {
-            price: 3500,
-            end: 750,
-        },
-        Step {
-            price: 4000,
-            end: 1200,
-        },
-        Step {
-            price: 80_000,
-            end: 2000,
-        },
-    ],
-    count: 4,
-};
+// $19, $35, $40 and $800, the last to where the offer ends.
+fn offer(end: u32) -> Steps
+    ensures { result ≡ offer_of end }
+{
+    Steps {
+        list: [
+            to(1900, 500),
+            to(3500, 750),
+            to(4000, 1200),
+            to(80_000, end),
+        ],
+        count: 4,
+    }
+}
 
-const REFERENCE: Steps = Steps {
-    list: [
-        Step {
-            price: 500,
-            end: 500,
-        },
-        Step {
-            price: 1500,
-            end: 1000,
-        },
-        Step {
-            price: 4500,
-            end: 1500,
-        },
-        NONE,
-    ],
-    count: 3,
-};
-
-// The reference, its last step to 200 MW.
-const LONGER: Steps = Steps {
-    list: [
-        Step {
-            price: 500,
-            end: 500,
-        },
-        Step {
-            price: 1500,
-            end: 1000,
-        },
-        Step {
-            price: 4500,
-            end: 2000,
-        },
-        NONE,
-    ],
-    count: 3,
-};
+// $5, $15 and $45, the last to where the reference ends.
+fn reference(end: u32) -> Steps
+    ensures { result ≡ reference_of end }
+{
+    Steps {
+        list: [to(500, 500), to(1500, 1000), to(4500, end), NONE],
+        count: 3,
+    }
+}
 
 const BROAD: BoundFigure = BoundFigure {
     asked: Asked::Ceiling,
@@ -134,124 +83,107 @@ const SHORTFALL: BoundFigure = BoundFigure {
     fails: 809,
 };
 
-const CURVE: CurveFigure = CurveFigure {
-    offer: OFFER,
-    reference: REFERENCE,
-    as_offered: None,
-    reference_level: None,
-    passes: [true, true, true, false],
-    becomes: OFFER,
-};
+// The offer that ends there, of which only the last step fails.
+fn curve(end: u32, as_offered: Option<i32>, reference_level: Option<i32>, becomes: Steps) -> Figure
+    ensures { result ≡ curve_of end as_offered reference_level becomes }
+{
+    Figure::Curve(CurveFigure {
+        offer: offer(end),
+        reference: reference(1500),
+        as_offered,
+        reference_level,
+        passes: [true, true, true, false],
+        becomes,
+    })
+}
 
 // 75 MW offered of 90 in a broad constrained area.
-const ALONE: QuantityFigure = QuantityFigure {
-    condition: Condition::Broad,
-    set: 4,
-    impact: Terms {
-        percent: 100,
-        cap: 5000,
-        floor: 0,
-    },
-    alone: Terms {
-        percent: 10,
-        cap: 100_000,
-        floor: 0,
-    },
-    together: None,
-    entity: 0,
-    first: Held {
-        offer: Steps {
-            list: [
-                Step {
-                    price: 3000,
-                    end: 500,
-                },
-                Step {
-                    price: 4000,
-                    end: 600,
-                },
-                Step {
-                    price: 5000,
-                    end: 750,
-                },
-                NONE,
-            ],
-            count: 3,
+fn one_alone() -> QuantityFigure
+    ensures { result ≡ one_alone_of }
+{
+    QuantityFigure {
+        condition: Condition::Broad,
+        set: 4,
+        impact: Terms {
+            percent: 100,
+            cap: 5000,
+            floor: 0,
         },
-        reference: Some(900),
-        owes: 8_100_000,
-    },
-    second: Held {
-        offer: Steps {
-            list: [NONE, NONE, NONE, NONE],
-            count: 0,
+        alone: Terms {
+            percent: 10,
+            cap: 100_000,
+            floor: 0,
         },
-        reference: None,
-        owes: 0,
-    },
-    as_offered: 18_000,
-    reference_quantity: 7000,
-    resource_verdict: Verdict::Failed,
-    entity_verdict: Verdict::NotTested,
-};
+        together: None,
+        entity: 0,
+        first: Held {
+            offer: Steps {
+                list: [to(3000, 500), to(4000, 600), to(5000, 750), NONE],
+                count: 3,
+            },
+            reference: Some(900),
+            owes: 8_100_000,
+        },
+        second: Held {
+            offer: Steps {
+                list: [NONE, NONE, NONE, NONE],
+                count: 0,
+            },
+            reference: None,
+            owes: 0,
+        },
+        as_offered: 18_000,
+        reference_quantity: 7000,
+        resource_verdict: Verdict::Failed,
+        entity_verdict: Verdict::NotTested,
+    }
+}
 
 // 217 of 220 and 87 of 90 MW, sisters in a narrow constrained area.
-const SISTERS: QuantityFigure = QuantityFigure {
-    condition: Condition::Narrow,
-    set: 1,
-    impact: Terms {
-        percent: 50,
-        cap: 2500,
-        floor: 0,
-    },
-    alone: Terms {
-        percent: 10,
-        cap: 50,
-        floor: 0,
-    },
-    together: Some(Terms {
-        percent: 10,
-        cap: 50,
-        floor: 0,
-    }),
-    entity: 1,
-    first: Held {
-        offer: Steps {
-            list: [
-                Step {
-                    price: 3000,
-                    end: 2170,
-                },
-                NONE,
-                NONE,
-                NONE,
-            ],
-            count: 1,
+fn two_sisters() -> QuantityFigure
+    ensures { result ≡ two_sisters_of }
+{
+    QuantityFigure {
+        condition: Condition::Narrow,
+        set: 1,
+        impact: Terms {
+            percent: 50,
+            cap: 2500,
+            floor: 0,
         },
-        reference: Some(2200),
-        owes: 1_620_000,
-    },
-    second: Held {
-        offer: Steps {
-            list: [
-                Step {
-                    price: 3000,
-                    end: 870,
-                },
-                NONE,
-                NONE,
-                NONE,
-            ],
-            count: 1,
+        alone: Terms {
+            percent: 10,
+            cap: 50,
+            floor: 0,
         },
-        reference: Some(900),
-        owes: 1_620_000,
-    },
-    as_offered: 18_000,
-    reference_quantity: 7000,
-    resource_verdict: Verdict::Passed,
-    entity_verdict: Verdict::Failed,
-};
+        together: Some(Terms {
+            percent: 10,
+            cap: 50,
+            floor: 0,
+        }),
+        entity: 1,
+        first: Held {
+            offer: Steps {
+                list: [to(3000, 2170), NONE, NONE, NONE],
+                count: 1,
+            },
+            reference: Some(2200),
+            owes: 1_620_000,
+        },
+        second: Held {
+            offer: Steps {
+                list: [to(3000, 870), NONE, NONE, NONE],
+                count: 1,
+            },
+            reference: Some(900),
+            owes: 1_620_000,
+        },
+        as_offered: 18_000,
+        reference_quantity: 7000,
+        resource_verdict: Verdict::Passed,
+        entity_verdict: Verdict::Failed,
+    }
+}
 
 // The list of figures; each holds by the rules alone.
 pub fn figures() -> [Figure; 12]
@@ -281,27 +213,12 @@ pub fn figures() -> [Figure; 12]
             fails: 500,
             ..NARROW
         }),
-        Figure::Curve(CURVE),
-        Figure::Curve(CurveFigure {
-            as_offered: Some(80_000),
-            reference_level: Some(4500),
-            becomes: REFERENCE,
-            ..CURVE
-        }),
-        Figure::Curve(CurveFigure {
-            as_offered: Some(9000),
-            reference_level: Some(4500),
-            ..CURVE
-        }),
-        Figure::Curve(CurveFigure {
-            offer: STRETCHED,
-            as_offered: Some(80_000),
-            reference_level: Some(4500),
-            becomes: LONGER,
-            ..CURVE
-        }),
+        curve(1500, None, None, offer(1500)),
+        curve(1500, Some(80_000), Some(4500), reference(1500)),
+        curve(1500, Some(9000), Some(4500), offer(1500)),
+        curve(2000, Some(80_000), Some(4500), reference(2000)),
         Figure::Bound(SHORTFALL),
-        Figure::Quantity(ALONE),
-        Figure::Quantity(SISTERS),
+        Figure::Quantity(one_alone()),
+        Figure::Quantity(two_sisters()),
     ]
 }

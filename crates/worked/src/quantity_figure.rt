@@ -2,7 +2,7 @@
 ghost use Rattle.std.specs.Prelude.{◌≡◌};
 ghost use Rattle.worked.specs.QuantityFigures.{lines as lines_of, resource as resource_of, table as table_of, found as found_of};
 
-use crate::hour::{Steps, energy_resource};
+use crate::hour::{Steps, energy_resource, standing};
 use bounds::ceiling::Ceiling;
 use bounds::exemption::Exemption;
 use bounds::shortfall::Shortfall;
@@ -14,7 +14,6 @@ use vocabulary::condition::Condition;
 use vocabulary::lines::Terms;
 use vocabulary::product::Product;
 use vocabulary::resource::Resource;
-use vocabulary::standing::Standing;
 use vocabulary::verdict::Verdict;
 
 // An offer, its reference quantity, and what the resource should owe in twentieths of a cent.
@@ -58,17 +57,9 @@ impl QuantityFigure {
     fn resource(&self, held: Held) -> Resource
         ensures { result ≡ resource_of self.now held }
     {
-        let standing = Standing {
-            entity: self.entity,
-            multiplier: 1,
-            energy: self.set,
-            spinning: 0,
-            non_spinning: 0,
-            thirty_minute: 0,
-        };
         let prices = [Some(self.as_offered), None, Some(self.reference_quantity)];
         energy_resource(
-            standing,
+            standing(self.entity, self.set),
             held.offer.row(),
             Row::empty(),
             held.reference,

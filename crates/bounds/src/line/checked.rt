@@ -8,7 +8,7 @@ use super::Line;
 fn in_range(percent: u32, cap: u32, floor: i32) -> bool
     ensures { result ≡ in_range percent «cap» floor }
 {
-    percent <= 1000 && cap <= 100_000_000 && -10_000 <= floor && floor <= 200_000
+    percent <= 1000 && cap <= 100_000_000 && (-10_000..=200_000).contains(&floor)
 }
 
 impl Line {

@@ -1,5 +1,5 @@
 // What is asked of a curve, and the substitute that is made from one.
-ghost use Rattle.std.specs.Prelude.{◌≡◌, ◌<◌, ◌≤◌, take};
+ghost use Rattle.std.specs.Prelude.{◌≡◌, ◌<◌, ◌≤◌, length};
 ghost use Rattle.curves.specs.Curves.{steps_of};
 ghost use Rattle.curves.specs.Steps.{price_at as price_of, last_end, kept, substitute as substitute_of};
 
@@ -10,7 +10,7 @@ impl Curve {
     pub fn steps(&self) -> &[Step]
         ensures { result.now ≡ steps_of self.now }
     {
-        &self.steps[0..self.count]
+        &self.steps[..self.count]
     }
 
     // The most steps that this curve may have.
@@ -24,17 +24,11 @@ impl Curve {
     pub fn price_at(&self, quantity: u32) -> i32
         ensures { result ≡ price_of (steps_of self.now) quantity }
     {
-        let mut price = 0;
-        for step in self.steps() {
-            price = step.price;
-            if quantity <= step.end {
-                return price;
-            }
-        }
-        price
+        self.steps[self.kept_count(quantity)].price
     }
 
     // Where the last step ends.
+    #[tactic(auto, using(crate::proofs::Walks::last_end_at))]
     pub fn last_end(&self) -> u32
         ensures value { result ≡ last_end (steps_of self.now) }
         ensures small { result ≤ 100000 }
@@ -44,17 +38,13 @@ impl Curve {
 
     // How many steps end below a quantity, the last left aside.
     fn kept_count(&self, quantity: u32) -> usize
+        ensures count { result ≡ length (kept (steps_of self.now) quantity) }
         ensures within { result < self.now.count }
-        ensures these { kept (steps_of self.now) quantity ≡ take result self.now.steps }
     {
-        let mut n = 0;
-        while n + 1 < self.count {
-            if quantity <= self.steps[n].end {
-                return n;
-            }
-            n += 1;
-        }
-        n
+        self.steps[..self.count - 1]
+            .iter()
+            .take_while(|step| step.end < quantity)
+            .count()
     }
 
     // What stands in for an offer, where this is its reference.
@@ -65,10 +55,7 @@ impl Curve {
         let quantity = offer.last_end();
         let n = self.kept_count(quantity);
         let mut steps = self.steps;
-        steps[n] = Step {
-            price: self.price_at(quantity),
-            end: quantity,
-        };
+        steps[n].end = quantity;
         Curve {
             steps,
             count: n + 1,

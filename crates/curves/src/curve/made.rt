@@ -9,25 +9,23 @@ use super::Curve;
 use crate::order::in_order;
 use crate::row::Row;
 
+#[tactic(auto, using(std::proofs::lemmas::Grind::common_steps, crate::proofs::Walks::last_end_at))]
 fn holds_curve(row: &Row, limit: usize) -> bool
     ensures { result ≡ holds_curve limit row.now }
 {
-    if row.count < 1 || row.count > limit || limit > 20 {
-        return false;
-    }
-    row.steps[row.count - 1].end <= 100_000 && in_order(&row.steps[0..row.count])
+    (1..=limit).contains(&row.count)
+        && limit <= 20
+        && row.steps[row.count - 1].end <= 100_000
+        && in_order(&row.steps[..row.count])
 }
 
 // Where the curve that a row holds ends; none without one.
+#[tactic(auto, using(crate::proofs::Walks::last_end_at))]
 pub fn end_in(row: &Row, limit: usize) -> Option<u32>
     ensures value { result ≡ option_map last_end (curve_in limit row.now) }
     ensures small { IfSome result (λ end. end ≤ 100000) }
 {
-    if !holds_curve(row, limit) {
-        return None;
-    }
-    let end = row.steps[row.count - 1].end;
-    Some(end)
+    holds_curve(row, limit).then(|| row.steps[row.count - 1].end)
 }
 
 impl Curve {
@@ -37,9 +35,8 @@ impl Curve {
         ensures limits { IfSome result (λ c. c.limit ≡ limit) }
     {
         if holds_curve(&row, limit) {
-            let steps = row.steps;
             Some(Curve {
-                steps,
+                steps: row.steps,
                 count: row.count,
                 limit,
             })

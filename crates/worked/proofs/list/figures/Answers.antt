@@ -1,45 +1,9 @@
-use Rattle.std.proofs.Common.{refl}
+use Rattle.std.proofs.Common.{rules}
 use Rattle.bounds.specs.Lines.{line_of}
 use Rattle.charges.specs.Groups.{total}
 use Rattle.charges.specs.Findings.{finding}
 use Rattle.worked.proofs.list.figures.Goals as goal
 
-pub returns : goal.returns
+pub returns-clause-hold : goal.returns-clause-hold
 unfolding line_of total finding
-returns c = record {
-  list = refl;
-  hold = (
-    refl,
-    (
-      refl,
-      (
-        refl,
-        (
-          refl,
-          (
-            refl,
-            (
-              record { steps = refl; offer = refl },
-              (
-                record { steps = refl; offer = refl },
-                (
-                  record { steps = refl; offer = refl },
-                  (
-                    record { steps = refl; offer = refl },
-                    (
-                      refl,
-                      (
-                        record { resource = refl; entity = refl; first = refl; second = refl },
-                        (record { resource = refl; entity = refl; first = refl; second = refl }, tt),
-                      ),
-                    ),
-                  ),
-                ),
-              ),
-            ),
-          ),
-        ),
-      ),
-    ),
-  );
-}
+returns-clause-hold c = search rules depth 20
