@@ -22,20 +22,14 @@ use answers::listed::listed;
 use answers::question::question;
 use bodies::fault::{Fault, Refusal};
 use bounds::bound::{BoundAbove, BoundBelow};
+use entries::head::Head;
 use entries::reader::{check_file, read_posted};
-use entries::slots::head_fault;
 use files::file::write_file;
 use listing::whole::write_listing;
 use offers::mitigated::Mitigated;
 use table::fill::fill;
 use table::hour::Table;
 use verdicts::places::Places;
-
-fn refusal(fault: Fault) -> Refusal
-    ensures { result ≡ record { fault = fault; place = 0 } }
-{
-    Refusal { fault, place: 0 }
-}
 
 impl<C: BoundBelow, A: BoundBelow, I: BoundBelow, Q: BoundAbove> Book<C, A, I, Q> {
     // An empty book over the given bounds.
@@ -59,7 +53,7 @@ impl<C: BoundBelow, A: BoundBelow, I: BoundBelow, Q: BoundAbove> Book<C, A, I, Q
         ensures ranged { AllRanged self.old.table → AllRanged self.new.table }
     {
         if !self.is_open {
-            return Err(refusal(Fault::Closed));
+            return Err(Fault::Closed.into());
         }
         self.is_open = false;
         Ok(())
@@ -72,12 +66,9 @@ impl<C: BoundBelow, A: BoundBelow, I: BoundBelow, Q: BoundAbove> Book<C, A, I, Q
         ensures bounds { self.new.places ≡ self.old.places }
         ensures ranged { AllRanged self.old.table → AllRanged self.new.table }
     {
-        let entry = match read_posted(bytes) {
-            Ok(entry) => entry,
-            Err(fault) => return Err(refusal(fault)),
-        };
+        let entry = read_posted(bytes)?;
         if !self.is_open {
-            return Err(refusal(Fault::Closed));
+            return Err(Fault::Closed.into());
         }
         self.table.take(entry);
         Ok(())
@@ -92,7 +83,7 @@ impl<C: BoundBelow, A: BoundBelow, I: BoundBelow, Q: BoundAbove> Book<C, A, I, Q
     {
         check_file(file)?;
         if !self.is_open {
-            return Err(refusal(Fault::Closed));
+            return Err(Fault::Closed.into());
         }
         fill(&mut self.table, file);
         Ok(())
@@ -105,16 +96,14 @@ impl<C: BoundBelow, A: BoundBelow, I: BoundBelow, Q: BoundAbove> Book<C, A, I, Q
         ensures bounds { self.new.places ≡ self.old.places }
         ensures ranged { AllRanged self.old.table → AllRanged self.new.table }
     {
-        if let Some(fault) = head_fault(kind, first, sub) {
-            return Err(refusal(fault));
-        }
+        Head { kind, first, sub }.check()?;
         if !self.is_open {
-            return Err(refusal(Fault::Closed));
+            return Err(Fault::Closed.into());
         }
         if self.table.clear(kind, first, sub) {
             Ok(())
         } else {
-            Err(refusal(Fault::Empty))
+            Err(Fault::Empty.into())
         }
     }
 
@@ -153,7 +142,7 @@ impl<C: BoundBelow, A: BoundBelow, I: BoundBelow, Q: BoundAbove> Book<C, A, I, Q
         ensures asked { AllRanged self.now.table → Asked (meant_by C.Bound.meaning A.Bound.meaning I.Bound.meaning Q.Bound.meaning self.now.places) (slots_of self.now.table) resource answer.old answer.new result }
     {
         if resource >= 32 {
-            return Err(refusal(Fault::Slot));
+            return Err(Fault::Slot.into());
         }
         *answer = question(
             &self.places,

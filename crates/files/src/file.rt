@@ -61,10 +61,7 @@ pub fn write_file<S: Slots>(slots: &S, out: &mut [u8], place: usize) -> Result<u
 {
     let n = file_length(slots);
     if place > out.len() || out.len() - place < n {
-        return Err(Refusal {
-            fault: Fault::Room,
-            place: 0,
-        });
+        return Err(Fault::Room.into());
     }
     Ok(write_whole(slots, &mut out[place..]))
 }

@@ -69,10 +69,7 @@ pub fn write_questions<C: BoundBelow, A: BoundBelow, I: BoundBelow, Q: BoundAbov
     place: usize,
 ) -> Result<usize, Refusal> {
     if place > out.len() || out.len() - place < 1881 {
-        return Err(Refusal {
-            fault: Fault::Room,
-            place: 0,
-        });
+        return Err(Fault::Room.into());
     }
     let part = &mut out[place..];
     for resource in 0..33u8 {

@@ -73,10 +73,7 @@ pub fn write_listing(
 {
     let n = listing_length(answers);
     if place > out.len() || out.len() - place < n {
-        return Err(Refusal {
-            fault: Fault::Room,
-            place: 0,
-        });
+        return Err(Fault::Room.into());
     }
     Ok(write_lines(answers, &mut out[place..]))
 }

@@ -8,7 +8,7 @@ use Rattle.vocabulary.specs.Empty.{no_resource}
 use Rattle.bodies.specs.Bodies.{terms_bytes}
 use Rattle.entries.specs.Entries.{head}
 use Rattle.entries.specs.Files.{head_fault}
-use Rattle.entries.specs.Sections.{Head}
+use Rattle.entries.specs.declared.head.Head.{Head}
 use Rattle.entries.specs.Table.{kinds}
 use Rattle.ledger.specs.Slots.{place}
 use Rattle.ledger.specs.Views.{slots_from}
