@@ -96,11 +96,12 @@ impl<C: BoundBelow, A: BoundBelow, I: BoundBelow, Q: BoundAbove> Book<C, A, I, Q
         ensures bounds { self.new.places ≡ self.old.places }
         ensures ranged { AllRanged self.old.table → AllRanged self.new.table }
     {
-        Head { kind, first, sub }.check()?;
+        let head = Head { kind, first, sub };
+        head.check()?;
         if !self.is_open {
             return Err(Fault::Closed.into());
         }
-        if self.table.clear(kind, first, sub) {
+        if self.table.clear(head) {
             Ok(())
         } else {
             Err(Fault::Empty.into())
