@@ -92,7 +92,3 @@ word_fits bs byte = word_small _ _ _ _ (byte 0) (byte 1) (byte 2) (byte 3)
 pub number_front : (bs : List ℕ) → 4 ≤ length bs → Octets bs → number_bytes (number bs) ≡ take 4 bs
 unfolding number
 number_front bs h byte = ap word_bytes (of_z-to_z w32 (word bs) (word_fits bs byte)) ∙ word_front bs h byte
-
-pub length_word : (n : ℕ) → length (word_bytes n) ≡ 4
-unfolding word_bytes
-length_word n = refl

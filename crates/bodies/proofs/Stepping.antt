@@ -1,8 +1,8 @@
--- A curve read step by step, and written again.
-use Rattle.std.proofs.Common.{◌≡◌, ℕ, zero, suc, ◌+◌, ◌-◌, ◌*◌, ◌/◌, ◌%◌, ◌<◌, ◌≤◌, Bool, true, false, cond, eqb, leb, ◌⊎◌, List, [], ◌∷◌, ◌++◌, length, take, drop, set, sym, refl, ap, ◌∙◌, ⊎_elim, append_assoc, append-nil, arith, length-drop, length-set, take-append-drop}
+-- A curve read chunk by chunk, and written again.
+use Rattle.std.proofs.Common.{◌≡◌, ℕ, zero, suc, ◌+◌, ◌*◌, ◌/◌, ◌%◌, ◌<◌, ◌≤◌, Bool, true, false, cond, eqb, leb, ◌&&◌, ◌⊎◌, List, [], ◌∷◌, ◌++◌, length, get_or, take, drop, set, map, sym, refl, ap, ◌∙◌, ⊎_elim, append_assoc, arith, length-drop, length-set, take-append-drop}
 use mathlib.Core.Bool.{and-false}
-use native.Mathlib.Nat.{sub-zero}
-use Rattle.std.proofs.lemmas.List.{drop-drop, take_more_set, take_rest, nil_from_length}
+use Rattle.std.specs.Simd.{first_chunks}
+use Rattle.std.proofs.lemmas.List.{drop-drop, take_more_set, map_more, take_all, nil_from_length}
 use Rattle.std.proofs.lemmas.Bool.{lt-leb, le-leb, eq-eqb, and_from, and_parts, and_right, cond-true, cond_both}
 use Rattle.curves.specs.declared.step.Step.{Step}
 use Rattle.curves.specs.Steps.{in_order}
@@ -31,14 +31,6 @@ steps_again (suc n) bs h byte =
 pub curve_again : (body : List ℕ) → length body % 8 ≡ 0 → Octets body → curve_bytes (curve_steps body) ≡ body
 curve_again body h byte = steps_again (length body / 8) body (omega arith) byte
 
-pub curve_more : (bs : List ℕ) → 8 ≤ length bs → curve_steps bs ≡ step_of bs ∷ curve_steps (drop 8 bs)
-curve_more bs h =
-    let e : length bs / 8 ≡ suc (length (drop 8 bs) / 8) = simp length-drop (omega arith) in
-    ap (λ n. first_steps n bs) e
-
-pub curve_end : (bs : List ℕ) → length bs < 8 → curve_steps bs ≡ []
-curve_end bs h = let e : length bs / 8 ≡ 0 = omega arith in ap (λ n. first_steps n bs) e
-
 length_steps : (n : ℕ) (bs : List ℕ) → length (first_steps n bs) ≡ n
 length_steps zero bs = refl
 length_steps (suc n) bs = ap suc (length_steps n (drop 8 bs))
@@ -46,78 +38,87 @@ length_steps (suc n) bs = ap suc (length_steps n (drop 8 bs))
 pub length_curve_steps : (body : List ℕ) → length (curve_steps body) ≡ length body / 8
 length_curve_steps body = length_steps (length body / 8) body
 
+-- a step is what its own eight bytes say
+step_alone : (bs : List ℕ) → step_of (take 8 bs) ≡ step_of bs
+unfolding word number
+step_alone [] = refl
+step_alone (a ∷ []) = refl
+step_alone (a ∷ b ∷ []) = refl
+step_alone (a ∷ b ∷ c ∷ []) = refl
+step_alone (a ∷ b ∷ c ∷ d ∷ []) = refl
+step_alone (a ∷ b ∷ c ∷ d ∷ e ∷ []) = refl
+step_alone (a ∷ b ∷ c ∷ d ∷ e ∷ f ∷ []) = refl
+step_alone (a ∷ b ∷ c ∷ d ∷ e ∷ f ∷ g ∷ []) = refl
+step_alone (a ∷ b ∷ c ∷ d ∷ e ∷ f ∷ g ∷ h ∷ bs) = refl
+
+steps_chunked : (n : ℕ) (bs : List ℕ) → map step_of (first_chunks 8 n bs) ≡ first_steps n bs
+steps_chunked zero bs = refl
+steps_chunked (suc n) bs = λ i. step_alone bs i ∷ steps_chunked n (drop 8 bs) i
+
+-- the steps of a body are those of its chunks
+pub curve_chunked : (body : List ℕ) (chunks : List (List ℕ)) → chunks ≡ first_chunks 8 (length body / 8) body → curve_steps body ≡ map step_of chunks
+curve_chunked body chunks is = sym (ap (map step_of) is ∙ steps_chunked (length body / 8) body)
+
 range_more : (ss : List Step) (s : Step) → all_in_range ss ≡ true → in_step_range s ≡ true → all_in_range (ss ++ s ∷ []) ≡ true
 range_more [] s a h = rw h
 range_more (t ∷ ss) s a h = and_from _ _ (and_parts _ _ a).0 (range_more ss s (and_parts _ _ a).1 h)
 
-range_not : (ss : List Step) (s : Step) (ts : List Step) → in_step_range s ≡ false → all_in_range (ss ++ s ∷ ts) ≡ false
-range_not [] s ts h = rw h
-range_not (t ∷ ss) s ts h = and_right (in_step_range t) _ (range_not ss s ts h)
-
--- the fault of steps, by its tests
-module _ (most : ℕ) (ss : List Step) where
-  fault_range : all_in_range ss ≡ false → 6 ≡ steps_fault most ss
-  fault_range h = rw (h, and-false (leb (length ss) most), and-false (leb 1 (length ss)))
-
-  fault_none : length ss < 1 → 6 ≡ steps_fault most ss
-  fault_none h = rw (lt-leb 1 (length ss) h)
-
-  fault_many : most < length ss → 6 ≡ steps_fault most ss
-  fault_many h = rw (lt-leb (length ss) most h, and-false (leb 1 (length ss)))
-
-  fault_order : 1 ≤ length ss → length ss ≤ most → all_in_range ss ≡ true → steps_fault most ss ≡ cond (in_order ss) 0 7
-  fault_order a b h = rw (h, le-leb 1 (length ss) a, le-leb (length ss) most b)
+-- one chunk out of range is enough
+pub range_not : (chunks : List (List ℕ)) (m : ℕ) (s : Step) → m < length chunks → s ≡ step_of (get_or chunks m []) → false ≡ in_step_range s → all_in_range (map step_of chunks) ≡ false
+range_not [] m s h e f = absurd (omega arith)
+range_not (x ∷ chunks) zero s h e f = ap (λ t. in_step_range t && all_in_range (map step_of chunks)) (sym e) ∙ ap (λ b. b && all_in_range (map step_of chunks)) (sym f)
+range_not (x ∷ chunks) (suc m) s h e f = and_right (in_step_range (step_of x)) _ (range_not chunks m s (omega arith) e f)
 
 pub most_few : (parameter : ℕ) → most_steps parameter ≤ 20
 most_few parameter = cond_both (eqb parameter 0) 20 5 (λ n. n ≤ 20) (λ _. omega arith) (λ _. omega arith)
 
--- the first m steps are read, and rest is what is left of the body
-pub record Sofar (body rest : List ℕ) (ss : List Step) (m : ℕ) : Type 0 where
-  pub left : 8 * m + length rest ≡ length body
-  pub read : take m ss ++ curve_steps rest ≡ curve_steps body
+module _ (most : ℕ) (body : List ℕ) (whole : length body % 8 ≡ 0) where
+  -- a body of whole steps has the fault of its steps
+  whole_fault : (n : ℕ) → n ≡ steps_fault most (curve_steps body) → n ≡ cond (eqb (length body % 8) 0) (steps_fault most (curve_steps body)) 5
+  whole_fault n e = e ∙ sym (cond-true _ _ _ (eq-eqb (length body % 8) 0 whole))
+
+  pub count_fault : (length body / 8 < 1) ⊎ (most < length body / 8) → 6 ≡ cond (eqb (length body % 8) 0) (steps_fault most (curve_steps body)) 5
+  count_fault w =
+      let n = length (curve_steps body) in
+      let long = length_curve_steps body in
+      whole_fault 6 (⊎_elim
+      (λ h. rw (lt-leb 1 (length (curve_steps body)) (omega arith)))
+      (λ h. rw (lt-leb (length (curve_steps body)) most (omega arith), and-false (leb 1 (length (curve_steps body)))))
+      w)
+
+  -- so many steps have the fault of their range and order
+  pub counted_fault : 1 ≤ length body / 8 → length body / 8 ≤ most → (n : ℕ) → n ≡ cond (all_in_range (curve_steps body)) (cond (in_order (curve_steps body)) 0 7) 6 → n ≡ cond (eqb (length body % 8) 0) (steps_fault most (curve_steps body)) 5
+  counted_fault low high n e =
+      let long = length_curve_steps body in
+      let a = le-leb 1 (length (curve_steps body)) (omega arith) in
+      let b = le-leb (length (curve_steps body)) most (omega arith) in
+      whole_fault n (rw (a, b) e)
+
+-- the first m chunks are read, each in its range
+pub record Sofar (chunks : List (List ℕ)) (ss : List Step) (m : ℕ) : Type 0 where
+  pub read : take m ss ≡ map step_of (take m chunks)
   pub fit : all_in_range (take m ss) ≡ true
   pub room : length ss ≡ 20
 
--- a body of whole steps has the fault of its steps
-pub whole_fault : (most : ℕ) (body : List ℕ) → length body % 8 ≡ 0 → (n : ℕ) → n ≡ steps_fault most (curve_steps body) → n ≡ cond (eqb (length body % 8) 0) (steps_fault most (curve_steps body)) 5
-whole_fault most body h n e = e ∙ sym (cond-true _ _ _ (eq-eqb (length body % 8) 0 h))
-
-module _ (body : List ℕ) (most : ℕ) where
-  pub count_fault : (length body / 8 < 1) ⊎ (most < length body / 8) → 6 ≡ steps_fault most (curve_steps body)
-  count_fault w =
-      let long = length_curve_steps body in
-      ⊎_elim (λ h. fault_none most (curve_steps body) (omega arith)) (λ h. fault_many most (curve_steps body) (omega arith)) w
-
-module _ {body rest : List ℕ} {ss : List Step} {m : ℕ} (so : Sofar body rest ss m) where
-  pub row_more : (s : Step) → 8 ≤ length rest → length body / 8 ≤ 20 → s ≡ step_of rest → true ≡ in_step_range s → Sofar body (take (length rest - 8) (drop 8 rest)) (set ss m s) (m + 1)
+module _ {chunks : List (List ℕ)} {ss : List Step} {m : ℕ} (so : Sofar chunks ss m) where
+  pub row_more : (s : Step) → m < length chunks → length chunks ≤ 20 → s ≡ step_of (get_or chunks m []) → true ≡ in_step_range s → Sofar chunks (set ss m s) (m + 1)
   row_more s h few e f =
-      let lt : m < length ss = omega (arith, so.left, so.room) in
-      let back : take (length rest - 8) (drop 8 rest) ≡ drop 8 rest = take_rest rest 8 in
+      let lt : m < length ss = omega (arith, so.room) in
       record {
-        left = rw back (simp length-drop (omega (arith, so.left)));
-        read = rw (back, take_more_set ss m s lt, append_assoc) (ap (λ l. take m ss ++ l) (ap (λ x. x ∷ curve_steps (drop 8 rest)) e ∙ sym (curve_more rest h)) ∙ so.read);
+        read = take_more_set ss m s lt ∙ (λ i. so.read i ++ e i ∷ []) ∙ sym (map_more step_of chunks m [] h);
         fit = rw (take_more_set ss m s lt) (range_more (take m ss) s so.fit (sym f));
         room = length-set ss m s ∙ so.room;
       }
 
-  pub row_unfit : (s : Step) (most : ℕ) → 8 ≤ length rest → s ≡ step_of rest → false ≡ in_step_range s → 6 ≡ steps_fault most (curve_steps body)
-  row_unfit s most h e f =
-      let next = curve_more rest h ∙ ap (λ x. x ∷ curve_steps (drop 8 rest)) (sym e) in
-      fault_range most (curve_steps body)
-      (ap all_in_range (sym so.read ∙ ap (λ l. take m ss ++ l) next) ∙ range_not (take m ss) s (curve_steps (drop 8 rest)) (sym f))
+  -- all chunks are read, n of them
+  module _ (body : List ℕ) (n : ℕ) (is : chunks ≡ first_chunks 8 (length body / 8) body) (all : length chunks ≤ m) (e : n ≡ m) where
+    pub row_whole : take n ss ≡ curve_steps body
+    row_whole = ap (λ k. take k ss) e ∙ so.read ∙ ap (map step_of) (take_all m chunks all) ∙ sym (curve_chunked body chunks is)
 
-  pub row_whole : length rest < 8 → take m ss ≡ curve_steps body
-  row_whole h = sym (append-nil (take m ss)) ∙ ap (λ l. take m ss ++ l) (sym (curve_end rest h)) ∙ so.read
+    pub row_ordered : (r : Bool) → r ≡ in_order (take n ss) → r ≡ in_order (curve_steps body)
+    row_ordered r o = o ∙ ap in_order row_whole
 
-  pub row_ordered : true ≡ in_order (take (m - 0) ss) → in_order (take m ss) ≡ true
-  row_ordered e = sym (e ∙ ap (λ n. in_order (take n ss)) (sub-zero m))
-
-  pub row_count : length rest < 8 → length body % 8 ≡ 0 → m ≡ length (curve_steps body)
-  row_count h w = let long = length_curve_steps body in let l = so.left in omega arith
-
-  pub row_order : (most : ℕ) → length rest < 8 → 1 ≤ length body / 8 → length body / 8 ≤ most → (r : Bool) → r ≡ in_order (take (m - 0) ss) → cond r 0 7 ≡ steps_fault most (curve_steps body)
-  row_order most h low high r e =
-      let long = length_curve_steps body in
-      let w = row_whole h in
-      sym (fault_order most (curve_steps body) (omega arith) (omega arith) (ap all_in_range (sym w) ∙ so.fit)
-      ∙ ap (λ b. cond b 0 7) (ap in_order (sym w) ∙ ap (λ n. in_order (take n ss)) (sym (sub-zero m)) ∙ sym e))
+    pub row_order : (r : Bool) → r ≡ in_order (take n ss) → ◌≡◌ {A = ℕ} (cond r 0 7) (cond (all_in_range (curve_steps body)) (cond (in_order (curve_steps body)) 0 7) 6)
+    row_order r o =
+        let fit : all_in_range (curve_steps body) ≡ true = ap all_in_range (sym row_whole) ∙ ap (λ k. all_in_range (take k ss)) e ∙ so.fit in
+        ap (λ b. cond b 0 7) (row_ordered r o) ∙ sym (cond-true _ _ _ fit)

@@ -1,63 +1,48 @@
 -- A curve's steps looked at in turn, with only the last one kept.
-use Rattle.std.proofs.Common.{◌≡◌, ℕ, ◌-◌, ◌/◌, ◌<◌, ◌≤◌, Bool, true, false, cond, ◌&&◌, List, ◌∷◌, length, take, drop, sym, refl, ap, ◌∙◌, arith}
+use Rattle.std.proofs.Common.{◌≡◌, ℕ, suc, ◌+◌, ◌-◌, ◌/◌, ◌<◌, ◌≤◌, Bool, true, false, ◌&&◌, List, [], ◌∷◌, length, get_or, take, drop, map, sym, refl, ap, ◌∙◌, add-one, drop-cons}
+use Rattle.std.specs.Simd.{first_chunks}
 use Rattle.std.proofs.lemmas.List.{take_rest}
-use Rattle.std.proofs.lemmas.Bool.{le-leb}
 use Rattle.curves.specs.declared.step.Step.{Step}
 use Rattle.curves.specs.Steps.{rises, rises_on, in_order}
-use Rattle.bodies.specs.Curves.{step_of, curve_steps, in_step_range, all_in_range, steps_fault}
-use Rattle.bodies.proofs.Stepping.{curve_more, curve_end, length_curve_steps}
+use Rattle.bodies.specs.Curves.{step_of, curve_steps, in_step_range, all_in_range}
+use Rattle.bodies.proofs.Stepping.{curve_chunked, range_not}
 
--- what was looked at is in range, and in order if ordered; last is the last of it
-pub record Looked (body rest : List ℕ) (last : Step) (ordered : Bool) : Type 0 where
-  pub fit : all_in_range (curve_steps body) ≡ all_in_range (curve_steps rest)
-  pub order : in_order (curve_steps body) ≡ (ordered && rises_on last (curve_steps rest))
+-- what was looked at, up to the first j of more, is in range, and in order if ordered; last is the last of it
+pub record Looked (body : List ℕ) (more : List (List ℕ)) (j : ℕ) (last : Step) (ordered : Bool) : Type 0 where
+  pub fit : all_in_range (curve_steps body) ≡ all_in_range (map step_of (drop j more))
+  pub order : in_order (curve_steps body) ≡ (ordered && rises_on last (map step_of (drop j more)))
 
 and_shift : (a b c : Bool) → (a && (b && c)) ≡ ((a && b) && c)
 and_shift true b c = refl
 and_shift false b c = refl
 
-and_end : (a : Bool) → (a && true) ≡ a
-and_end true = refl
-and_end false = refl
+next_chunk : (chunks : List (List ℕ)) (j : ℕ) (s : Step) → j < length chunks → s ≡ step_of (get_or chunks j []) → map step_of (drop j chunks) ≡ s ∷ map step_of (drop (j + 1) chunks)
+next_chunk chunks j s h e = rw add-one (ap (map step_of) (drop-cons chunks j [] h) ∙ ap (λ x. x ∷ map step_of (drop (suc j) chunks)) (sym e))
 
-pub looked_first : (body : List ℕ) (s : Step) → 8 ≤ length body → s ≡ step_of body → true ≡ in_step_range s → Looked body (take (length body - 8) (drop 8 body)) s true
-looked_first body s h e f =
-    let back : take (length body - 8) (drop 8 body) ≡ drop 8 body = take_rest body 8 in
-    let next = curve_more body h ∙ ap (λ x. x ∷ curve_steps (drop 8 body)) (sym e) in
+range_next : (s : Step) (ss : List Step) → true ≡ in_step_range s → all_in_range (s ∷ ss) ≡ all_in_range ss
+range_next s ss f = ap (λ b. b && all_in_range ss) (sym f)
+
+pub looked_first : (body : List ℕ) (chunks : List (List ℕ)) → chunks ≡ first_chunks 8 (length body / 8) body → (s : Step) → 1 ≤ length chunks → s ≡ step_of (get_or chunks 0 []) → true ≡ in_step_range s → Looked body (take (length chunks - 1) (drop 1 chunks)) 0 s true
+looked_first body chunks is s h e f =
+    let back : take (length chunks - 1) (drop 1 chunks) ≡ drop 1 chunks = take_rest chunks 1 in
+    let all = curve_chunked body chunks is ∙ next_chunk chunks 0 s h e in
     record {
-      fit = rw back (ap all_in_range next ∙ ap (λ b. b && all_in_range (curve_steps (drop 8 body))) (sym f));
-      order = rw back (ap in_order next);
+      fit = rw back (ap all_in_range all ∙ range_next s (map step_of (drop 1 chunks)) f);
+      order = rw back (ap in_order all);
     }
 
-pub unfit_first : (body : List ℕ) (s : Step) → 8 ≤ length body → s ≡ step_of body → false ≡ in_step_range s → all_in_range (curve_steps body) ≡ false
-unfit_first body s h e f =
-    let next = curve_more body h ∙ ap (λ x. x ∷ curve_steps (drop 8 body)) (sym e) in
-    ap all_in_range next ∙ ap (λ b. b && all_in_range (curve_steps (drop 8 body))) (sym f)
+pub unfit_first : (body : List ℕ) (chunks : List (List ℕ)) → chunks ≡ first_chunks 8 (length body / 8) body → (s : Step) → 1 ≤ length chunks → s ≡ step_of (get_or chunks 0 []) → false ≡ in_step_range s → all_in_range (curve_steps body) ≡ false
+unfit_first body chunks is s h e f = ap all_in_range (curve_chunked body chunks is) ∙ range_not chunks 0 s h e f
 
-module _ {body rest : List ℕ} {last : Step} {ordered : Bool} (so : Looked body rest last ordered) where
-  pub looked_more : (s : Step) (r : Bool) → 8 ≤ length rest → s ≡ step_of rest → true ≡ in_step_range s → r ≡ (ordered && rises last s) → Looked body (take (length rest - 8) (drop 8 rest)) s r
+module _ {body : List ℕ} {more : List (List ℕ)} {j : ℕ} {last : Step} {ordered : Bool} (so : Looked body more j last ordered) where
+  pub looked_more : (s : Step) (r : Bool) → j < length more → s ≡ step_of (get_or more j []) → true ≡ in_step_range s → r ≡ (ordered && rises last s) → Looked body more (j + 1) s r
   looked_more s r h e f o =
-      let back : take (length rest - 8) (drop 8 rest) ≡ drop 8 rest = take_rest rest 8 in
-      let next = curve_more rest h ∙ ap (λ x. x ∷ curve_steps (drop 8 rest)) (sym e) in
+      let next = next_chunk more j s h e in
+      let rest = map step_of (drop (j + 1) more) in
       record {
-        fit = rw back (so.fit ∙ ap all_in_range next ∙ ap (λ b. b && all_in_range (curve_steps (drop 8 rest))) (sym f));
-        order = rw back (so.order ∙ ap (λ l. ordered && rises_on last l) next ∙ and_shift ordered (rises last s) (rises_on s (curve_steps (drop 8 rest))) ∙ ap (λ b. b && rises_on s (curve_steps (drop 8 rest))) (sym o));
+        fit = so.fit ∙ ap all_in_range next ∙ range_next s (map step_of (drop (j + 1) more)) f;
+        order = so.order ∙ ap (λ l. ordered && rises_on last l) next ∙ and_shift ordered (rises last s) (rises_on s (map step_of (drop (j + 1) more))) ∙ ap (λ b. b && rises_on s (map step_of (drop (j + 1) more))) (sym o);
       }
 
-  pub looked_unfit : (s : Step) → 8 ≤ length rest → s ≡ step_of rest → false ≡ in_step_range s → all_in_range (curve_steps body) ≡ false
-  looked_unfit s h e f = so.fit ∙ unfit_first rest s h e f
-
-  pub looked_all : length rest < 8 → ◌≡◌ {A = ℕ} (cond ordered 0 7) (cond (all_in_range (curve_steps body)) (cond (in_order (curve_steps body)) 0 7) 6)
-  looked_all h =
-      let end = curve_end rest h in
-      let all = so.fit ∙ ap all_in_range end in
-      let order = so.order ∙ ap (λ l. ordered && rises_on last l) end ∙ and_end ordered in
-      rw (all, order)
-
--- so many steps have the fault of their range and order
-pub counted_fault : (most : ℕ) (body : List ℕ) → 1 ≤ length body / 8 → length body / 8 ≤ most → ◌≡◌ {A = ℕ} (cond (all_in_range (curve_steps body)) (cond (in_order (curve_steps body)) 0 7) 6) (steps_fault most (curve_steps body))
-counted_fault most body low high =
-    let long = length_curve_steps body in
-    let a = le-leb 1 (length (curve_steps body)) (omega arith) in
-    let b = le-leb (length (curve_steps body)) most (omega arith) in
-    rw (a, b)
+  pub looked_unfit : (s : Step) → j < length more → s ≡ step_of (get_or more j []) → false ≡ in_step_range s → all_in_range (curve_steps body) ≡ false
+  looked_unfit s h e f = so.fit ∙ ap all_in_range (next_chunk more j s h e) ∙ ap (λ b. b && all_in_range (map step_of (drop (j + 1) more))) (sym f)

@@ -1,5 +1,5 @@
 -- The number of each fault, and what a reading answers.
-use Rattle.std.specs.Prelude.{◌≡◌, ℕ, Some, None, Ok, Err, Option, Result}
+use Rattle.std.specs.Prelude.{◌≡◌, ℕ, Ok, Err, Result}
 use Rattle.bodies.specs.declared.fault.Fault.{Fault}
 use Rattle.bodies.specs.declared.fault.Fault.TheVariants.{Short, Mark, Kind, Slot, Length, Range, Order, Room, Closed, Empty}
 
@@ -15,10 +15,10 @@ fault_number Room = 8
 fault_number Closed = 21
 fault_number Empty = 22
 
--- 0 where there is none
-abbrev pub fault_of : Option Fault → ℕ
-fault_of None = 0
-fault_of (Some fault) = fault_number fault
+-- of a check: 0 where it passes
+abbrev pub fault_of : Result Unit Fault → ℕ
+fault_of (Ok _) = 0
+fault_of (Err fault) = fault_number fault
 
 -- bytes with this fault, or 0, are refused for it, or give a value of which P holds
 abbrev pub Reads : {A : Type 0} → ℕ → (A → Type 0) → Result A Fault → Type 0

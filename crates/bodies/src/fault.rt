@@ -24,6 +24,15 @@ pub struct Refusal {
     pub place: usize,
 }
 
+// A fault of no entry's in particular stands at the start.
+impl From<Fault> for Refusal {
+    ghost from_gives = { λ fault r. r ≡ record { fault = fault; place = 0 } };
+
+    fn from(fault: Fault) -> Refusal {
+        Refusal { fault, place: 0 }
+    }
+}
+
 impl Fault {
     pub fn number(self) -> u8
         ensures { result ≡ fault_number self }

@@ -6,25 +6,22 @@ ghost use Rattle.bodies.specs.Faults.{fault_of, Reads};
 use crate::fault::Fault;
 use vocabulary::resource::Remark;
 
-// Why the body of a remark is refused; none where it is read.
-pub fn refused_remark(body: &[u8]) -> Option<Fault>
+// Refuses a body that no remark has.
+pub fn check_remark(body: &[u8]) -> Result<(), Fault>
     ensures { fault_of result ≡ remark_fault body.now }
 {
-    if body.len() < 1 || body.len() > 120 {
-        Some(Fault::Length)
-    } else {
-        None
+    match body.len() {
+        1..=120 => Ok(()),
+        _ => Err(Fault::Length),
     }
 }
 
 pub fn read_remark(body: &[u8]) -> Result<Remark, Fault>
     ensures { Reads (remark_fault body.now) (λ remark. (remark.count ≡ length body.now) × (remark_bytes remark ≡ body.now)) result }
 {
+    check_remark(body)?;
     let count = body.len();
-    if count < 1 || count > 120 {
-        return Err(Fault::Length);
-    }
     let mut bytes = [0; 120];
-    bytes[0..count].copy_from_slice(body);
+    bytes[..count].copy_from_slice(body);
     Ok(Remark { bytes, count })
 }

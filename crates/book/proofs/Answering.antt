@@ -3,13 +3,11 @@ use Rattle.std.proofs.Common.{◌≡◌, ℕ, false, eqb, List, get_or, set, is_
 use Rattle.std.proofs.lemmas.Bool.{cond-true, cond-false, eq-eqb, ne_eqb, true≢false}
 use Rattle.std.proofs.lemmas.List.{set-get_or}
 use Rattle.ledger.specs.Slots.{Slots}
-use Rattle.bodies.specs.declared.fault.Fault.{Fault}
 use Rattle.bodies.specs.declared.fault.Refusal.{Refusal}
-use Rattle.bodies.specs.Faults.{fault_number}
-use Rattle.entries.specs.Files.{Told, no_fault, first_fault, told}
+use Rattle.entries.specs.Files.{Told, no_fault, told}
 use Rattle.entries.specs.Table.{kinds}
-use Rattle.entries.proofs.Reading.{fault_positive, first_stands}
-use Rattle.ledger.specs.Ledger.{Act, Ledger, without_place, fault, obeyed, step}
+use Rattle.entries.proofs.Reading.{fault_positive}
+use Rattle.ledger.specs.Ledger.{Act, Ledger, fault, obeyed, step}
 
 -- a refusal tells the ledger's fault, and the ledger stays
 pub record Refused (l : Ledger) (a : Act) (r : Refusal) : Type 0 where
@@ -25,10 +23,6 @@ module _ (l : Ledger) (a : Act) where
 
   pub obeys : no_fault ≡ fault kinds l a → obeyed kinds l a ≡ step kinds l a
   obeys e = sym (cond-true (eqb (fault kinds l a).number 0) _ l (eq-eqb _ 0 (sym (ap (λ (t : Told). t.number) e))))
-
--- the first of two faults, told without a place
-pub first_told : (f : Fault) (r : Refusal) (a b : ℕ) → r ≡ record { fault = f; place = 0 } → fault_number f ≡ a → told (Err r) ≡ without_place (first_fault a b)
-first_told f r a b is e = ap (λ (x : Refusal). told (Err x)) is ∙ ap without_place (first_stands (fault_number f) a b e (fault_positive f))
 
 none : (o : Option (List ℕ)) → is_some o ≡ false → o ≡ None
 none None e = refl

@@ -21,19 +21,13 @@ use answers::listed::listed;
 use answers::question::question;
 use bodies::fault::{Fault, Refusal};
 use charges::rules::Rules;
+use entries::head::Head;
 use entries::reader::{check_file, read_posted};
-use entries::slots::head_fault;
 use files::file::write_file;
 use listing::whole::write_listing;
 use offers::mitigated::Mitigated;
 use table::fill::fill;
 use table::hour::Table;
-
-fn refusal(fault: Fault) -> Refusal
-    ensures { result ≡ record { fault = fault; place = 0 } }
-{
-    Refusal { fault, place: 0 }
-}
 
 impl<R: Rules> Book<R> {
     // An empty book over the given bounds.
@@ -57,7 +51,7 @@ impl<R: Rules> Book<R> {
         ensures ranged { AllRanged self.old.table → AllRanged self.new.table }
     {
         if !self.is_open {
-            return Err(refusal(Fault::Closed));
+            return Err(Fault::Closed.into());
         }
         self.is_open = false;
         Ok(())
@@ -70,12 +64,9 @@ impl<R: Rules> Book<R> {
         ensures bounds { self.new.rules ≡ self.old.rules }
         ensures ranged { AllRanged self.old.table → AllRanged self.new.table }
     {
-        let entry = match read_posted(bytes) {
-            Ok(entry) => entry,
-            Err(fault) => return Err(refusal(fault)),
-        };
+        let entry = read_posted(bytes)?;
         if !self.is_open {
-            return Err(refusal(Fault::Closed));
+            return Err(Fault::Closed.into());
         }
         self.table.take(entry);
         Ok(())
@@ -90,7 +81,7 @@ impl<R: Rules> Book<R> {
     {
         check_file(file)?;
         if !self.is_open {
-            return Err(refusal(Fault::Closed));
+            return Err(Fault::Closed.into());
         }
         fill(&mut self.table, file);
         Ok(())
@@ -103,16 +94,15 @@ impl<R: Rules> Book<R> {
         ensures bounds { self.new.rules ≡ self.old.rules }
         ensures ranged { AllRanged self.old.table → AllRanged self.new.table }
     {
-        if let Some(fault) = head_fault(kind, first, sub) {
-            return Err(refusal(fault));
-        }
+        let head = Head { kind, first, sub };
+        head.check()?;
         if !self.is_open {
-            return Err(refusal(Fault::Closed));
+            return Err(Fault::Closed.into());
         }
-        if self.table.clear(kind, first, sub) {
+        if self.table.clear(head) {
             Ok(())
         } else {
-            Err(refusal(Fault::Empty))
+            Err(Fault::Empty.into())
         }
     }
 
@@ -151,7 +141,7 @@ impl<R: Rules> Book<R> {
         ensures asked { AllRanged self.now.table → Asked (R.meanings self.now.rules) (slots_of self.now.table) resource answer.old answer.new result }
     {
         if resource >= 32 {
-            return Err(refusal(Fault::Slot));
+            return Err(Fault::Slot.into());
         }
         *answer = question(
             &self.rules,

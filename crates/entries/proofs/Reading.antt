@@ -1,13 +1,15 @@
 -- The entry that begins a list of bytes: its parts and its fault.
-use Rattle.std.proofs.Common.{◌≡◌, ℕ, ◌+◌, ◌-◌, ◌*◌, ◌/◌, ◌%◌, ◌<◌, ◌≤◌, List, [], ◌∷◌, length, take, drop, sym, ap, ◌∙◌, arith}
-use Rattle.std.proofs.lemmas.List.{drop-drop, take_rest, take_all}
-use Rattle.std.proofs.lemmas.Bool.{lt-ltb, le-ltb, ne_eqb, cond-true, cond-false}
+use Rattle.std.proofs.Common.{◌≡◌, ℕ, ◌+◌, ◌-◌, ◌*◌, ◌/◌, ◌%◌, ◌<◌, ◌≤◌, List, [], ◌∷◌, length, take, drop, Ok, Err, Result, MatchResult, sym, refl, ap, ◌∙◌, subst, arith, length-drop}
+use Rattle.std.proofs.lemmas.List.{drop-drop, take_all}
+use Rattle.std.proofs.lemmas.Bool.{le-ltb, ne_eqb, cond-false}
 use Rattle.bodies.specs.Numbers.{size}
-use Rattle.bodies.specs.Faults.{fault_number}
+use Rattle.bodies.specs.Faults.{fault_number, Reads}
 use Rattle.entries.specs.Sections.{Section}
+use Rattle.entries.specs.declared.head.Head.{Head}
 use Rattle.entries.specs.Entries.{Raw, head, raw}
-use Rattle.entries.specs.Files.{entry_bytes, first_fault, short, followed, head_of, body_of, entry_length, entry_at, head_fault, body_fault, checks, entry_fault, post_fault}
+use Rattle.entries.specs.Files.{told, entry_bytes, first_fault, short, followed, head_of, body_of, entry_length, entry_at, head_fault, body_fault, checks, entry_fault, post_fault}
 use Rattle.bodies.proofs.Bytes.{Octets}
+use Rattle.bodies.specs.declared.fault.Refusal.{Refusal}
 use Rattle.bodies.specs.declared.fault.Fault.{Fault}
 use Rattle.bodies.specs.declared.fault.Fault.TheVariants.{Short, Mark, Kind, Slot, Length, Range, Order, Room, Closed, Empty}
 
@@ -22,6 +24,17 @@ fault_positive Order = omega arith
 fault_positive Room = omega arith
 fault_positive Closed = omega arith
 fault_positive Empty = omega arith
+
+-- what was read of the entry at a place, by how reading it ended
+pub placed_ok : {A : Type 0} (n place : ℕ) (P : A → Type 0) (r : Result A Fault) (x : A) → Reads n P r → MatchResult r (λ y. ◌≡◌ {A = Result A Refusal} (Ok x) (Ok y)) (λ f. ◌≡◌ {A = Result A Refusal} (Ok x) (Err (record { fault = f; place = place }))) → (n ≡ 0) × P x
+placed_ok n place P (Ok y) x said h = let e : y ≡ x = cc in (said.0, subst P e said.1)
+placed_ok n place P (Err f) x said h = absurd (cc)
+
+pub placed_err : {A : Type 0} (n place : ℕ) (P : A → Type 0) (r : Result A Fault) (d : Refusal) → Reads n P r → MatchResult r (λ y. ◌≡◌ {A = Result A Refusal} (Err d) (Ok y)) (λ f. ◌≡◌ {A = Result A Refusal} (Err d) (Err (record { fault = f; place = place }))) → told (Err d) ≡ record { number = n; place = place }
+placed_err n place P (Ok y) d said h = absurd (cc)
+placed_err n place P (Err f) d said h =
+    let e : d ≡ record { fault = f; place = place } = cc in
+    (λ i. record { number = fault_number (e i).fault; place = (e i).place }) ∙ (λ i. record { number = said i; place = place })
 
 pub first_stands : (m a b : ℕ) → m ≡ a → 0 < m → m ≡ first_fault a b
 first_stands m a b e h = e ∙ sym (cond-false _ _ _ (ne_eqb a 0 (λ z. omega arith)))
@@ -40,25 +53,15 @@ module _ (table : List Section) (bs : List ℕ) (n : ℕ) (is : n ≡ size (drop
   pub whole_checks : (extra : ℕ) → checks table extra bs ≡ first_fault (head_fault table (head_of bs)) (first_fault extra (body_fault table (head_of bs) (body_of bs)))
   whole_checks extra = first_passes (short bs) _ not_short
 
-  pub post_head : (m : ℕ) → m ≡ head_fault table (head_of bs) → 0 < m → m ≡ post_fault table bs
-  post_head m e h = first_stands m (head_fault table (head_of bs)) _ e h ∙ sym (whole_checks (followed bs))
+  pub entry_alone : (h : Head) → h ≡ head_of bs → raw h (take (5 + n - 5) (drop 5 bs)) 0 ≡ entry_at 0 bs
+  entry_alone h named = let e : 5 + n - 5 ≡ size (drop 3 bs) = omega arith in λ i. raw (named i) (take (e i) (drop 5 bs)) 0
 
-  pub entry_alone : raw (head_of bs) (take (5 + n - 5) (drop 5 bs)) 0 ≡ entry_at 0 bs
-  entry_alone = let e : 5 + n - 5 ≡ size (drop 3 bs) = omega arith in ap (λ k. raw (head_of bs) (take k (drop 5 bs)) 0) e
-
-  -- the head names a slot
-  module _ (named : head_fault table (head_of bs) ≡ 0) where
-    pub post_followed : 5 + n < length bs → 5 ≡ post_fault table bs
-    post_followed h =
-        let e : followed bs ≡ 5 = cond-true _ _ _ (lt-ltb (entry_length bs) (length bs) (omega arith)) in
-        sym (whole_checks (followed bs) ∙ first_passes _ _ named ∙ sym (first_stands 5 (followed bs) _ (sym e) (omega arith)))
-
-    -- the entry r was made of that head and the bytes behind it
-    pub post_body : length bs ≤ 5 + n → (r : Raw) → r ≡ raw (head_of bs) (take (5 + n - 5) (drop 5 bs)) 0 → (m : ℕ) → m ≡ body_fault table r.head r.body → m ≡ post_fault table bs
-    post_body h r made m e =
-        let alone : followed bs ≡ 0 = cond-false _ _ _ (le-ltb (entry_length bs) (length bs) (omega arith)) in
-        e ∙ ap (λ (x : Raw). body_fault table x.head x.body) (made ∙ entry_alone)
-        ∙ sym (whole_checks (followed bs) ∙ first_passes _ _ named ∙ first_passes _ _ alone)
+  -- the entry stands alone, and its head names a slot
+  pub post_body : length bs ≤ 5 + n → (r : Raw) → r ≡ entry_at 0 bs → head_fault table r.head ≡ 0 → (m : ℕ) → m ≡ body_fault table r.head r.body → m ≡ post_fault table bs
+  post_body h r made named m e =
+      let alone : followed bs ≡ 0 = cond-false _ _ _ (le-ltb (entry_length bs) (length bs) (omega arith)) in
+      e ∙ ap (λ (x : Raw). body_fault table x.head x.body) made
+      ∙ sym (whole_checks (followed bs) ∙ first_passes _ _ (ap (λ (x : Raw). head_fault table x.head) (sym made) ∙ named) ∙ first_passes _ _ alone)
 
 -- an entry by itself is written again as it was
 again_from : (a b c d e : ℕ) (rest : List ℕ) → e < 256 → length rest ≡ d * 256 + e → entry_bytes (head a b c) (take (d * 256 + e) rest) ≡ a ∷ b ∷ c ∷ d ∷ e ∷ rest
@@ -76,32 +79,19 @@ entry_again (a ∷ b ∷ c ∷ []) n is l byte = absurd (omega arith)
 entry_again (a ∷ b ∷ c ∷ d ∷ []) n is l byte = absurd (omega arith)
 entry_again (a ∷ b ∷ c ∷ d ∷ e ∷ rest) n is l byte = again_from a b c d e rest (byte 4) (omega arith)
 
--- the rest of a file from a place on, up to the file's end
-module _ (table : List Section) (file : List ℕ) (at limit : ℕ) (ends : limit ≡ length file) where
-  pub rest_is : take (limit - at) (drop at file) ≡ drop at file
-  rest_is = ap (λ k. take (k - at) (drop at file)) ends ∙ take_rest file at
+-- an entry of a file, from `at` to `past`
+module _ (table : List Section) (file : List ℕ) (at past : ℕ) (h : Head) (named : h ≡ head_of (drop at file)) (to : past ≡ at + entry_length (drop at file)) (within : past ≤ length file) where
+  body_here : take (past - (at + 5)) (drop (at + 5) file) ≡ body_of (drop at file)
+  body_here =
+      let e : past - (at + 5) ≡ size (drop 3 (drop at file)) = omega arith in
+      let from : drop (at + 5) file ≡ drop 5 (drop at file) = sym (drop-drop 5 at file) in
+      (λ i. take (e i) (from i))
 
-  pub rest_short : short (take (limit - at) (drop at file)) ≡ 1 → 1 ≡ entry_fault table (drop at file)
-  rest_short e = short_checks table 0 (take (limit - at) (drop at file)) e ∙ ap (entry_fault table) rest_is
+  pub entry_here : raw h (take (past - (at + 5)) (drop (at + 5) file)) at ≡ entry_at at (drop at file)
+  entry_here = λ i. raw (named i) (body_here i) at
 
-  module _ (n : ℕ) (is : n ≡ size (drop 3 (take (limit - at) (drop at file)))) (fits : 5 + n ≤ length (take (limit - at) (drop at file))) where
-    here : n ≡ size (drop 3 (drop at file))
-    here = is ∙ ap (λ l. size (drop 3 l)) rest_is
-
-    pub body_here : take (at + 5 + n - (at + 5)) (drop (at + 5) file) ≡ body_of (drop at file)
-    body_here =
-        let e : at + 5 + n - (at + 5) ≡ size (drop 3 (drop at file)) = let h = here in omega arith in
-        let from : drop (at + 5) file ≡ drop 5 (drop at file) = sym (drop-drop 5 at file) in
-        (λ i. take (e i) (from i))
-
-    pub entry_here : raw (head_of (take (limit - at) (drop at file))) (take (at + 5 + n - (at + 5)) (drop (at + 5) file)) at ≡ entry_at at (drop at file)
-    entry_here = λ i. raw (head_of (rest_is i)) (body_here i) at
-
-    pub fault_here : (m : ℕ) → m ≡ first_fault (head_fault table (head_of (take (limit - at) (drop at file)))) (body_fault table (head_of (take (limit - at) (drop at file))) (take (at + 5 + n - (at + 5)) (drop (at + 5) file))) → m ≡ entry_fault table (drop at file)
-    fault_here m e =
-        let long : length (take (limit - at) (drop at file)) ≡ length (drop at file) = ap length rest_is in
-        e ∙ (λ i. first_fault (head_fault table (head_of (rest_is i))) (body_fault table (head_of (rest_is i)) (body_here i)))
-        ∙ sym (whole_checks table (drop at file) n here (omega arith) 0)
-
-    pub past_here : at + 5 + n ≡ at + entry_length (drop at file)
-    past_here = let h = here in omega arith
+  pub fault_here : (m : ℕ) → m ≡ first_fault (head_fault table h) (body_fault table h (take (past - (at + 5)) (drop (at + 5) file))) → m ≡ entry_fault table (drop at file)
+  fault_here m e =
+      let long = length-drop at file in
+      e ∙ (λ i. first_fault (head_fault table (named i)) (body_fault table (named i) (body_here i)))
+      ∙ sym (whole_checks table (drop at file) (size (drop 3 (drop at file))) refl (omega arith) 0)

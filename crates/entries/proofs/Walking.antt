@@ -130,9 +130,6 @@ module _ (table : List Section) where
         left = any_bound (length (drop 5 file)) (length file) 5 (drop 5 file) (omega arith) (omega arith) ∙ sym (cond-true _ _ _ (eq-eqb (mark_fault file) 0 (sym e)));
       })
 
-  pub mark_fails : (file : List ℕ) (m : ℕ) → m ≡ mark_fault file → 0 < m → record { number = m; place = 0 } ≡ file_fault table file
-  mark_fails file m e h = ap (λ k. record { number = k; place = 0 }) e ∙ sym (cond-false _ _ _ (ne_eqb (mark_fault file) 0 (λ z. omega arith)))
-
   module _ {file : List ℕ} {c : Cursor} (so : Walked file c) where
     some_left : c.at < length file → 0 < length (drop c.at file)
     some_left h = simp length-drop (omega arith)

@@ -1,6 +1,6 @@
 -- What each case of an entry is in its file.
 use Rattle.std.specs.Prelude.{ℕ, List}
-use Rattle.entries.specs.Sections.{Head}
+use Rattle.entries.specs.declared.head.Head.{Head}
 use Rattle.entries.specs.declared.entry.Entry.{Entry}
 use Rattle.entries.specs.declared.entry.Entry.TheVariants.{Line, Standing, Offer, Reference, Quantity, Price, Remark}
 

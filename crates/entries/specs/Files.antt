@@ -2,7 +2,8 @@
 use Rattle.std.specs.Prelude.{◌≡◌, ℕ, zero, suc, ◌+◌, ◌/◌, ◌%◌, ◌<◌, ◌≤◌, Bool, cond, ◌&&◌, List, [], ◌∷◌, length, take, drop, Some, None, Ok, Err, Option, Result, ◌==◌, nat_lt, slice_index}
 use Rattle.bodies.specs.Numbers.{size}
 use Rattle.bodies.specs.Faults.{fault_number}
-use Rattle.entries.specs.Sections.{Section, Head, head_fault_from, body_fault_from}
+use Rattle.entries.specs.Sections.{Section, head_fault_from, body_fault_from}
+use Rattle.entries.specs.declared.head.Head.{Head}
 use Rattle.entries.specs.Entries.{Raw, head, raw, raw_of}
 use Rattle.entries.specs.declared.cursor.Cursor.{Cursor}
 use Rattle.entries.specs.declared.entry.Entry.{Entry}
@@ -106,6 +107,13 @@ module _ (table : List Section) where
 
   abbrev pub file_fault : List ℕ → Told
   file_fault bs = cond (mark_fault bs == 0) (entries_fault (length bs) 5 (drop 5 bs)) (record { number = mark_fault bs; place = 0 })
+
+  -- at the end, none; else the head of the next entry and the place past it, or its fault where it is cut short
+  abbrev pub Ahead : List ℕ → Cursor → Result (Option (Head × ℕ)) Refusal → Type 0
+  Ahead file c (Ok None) = c.at ≡ length file
+  Ahead file c (Ok (Some (h, past))) =
+      (c.at < length file) × (h ≡ head_of (drop c.at file)) × (past ≡ c.at + entry_length (drop c.at file)) × (past ≤ length file)
+  Ahead file c (Err r) = (c.at < length file) × (told (Err r) ≡ record { number = entry_fault (drop c.at file); place = c.at })
 
   -- the end, the next entry, or its fault; the cursor goes past an entry that has none, and else stays
   abbrev pub Next : List ℕ → Cursor → Cursor → Result (Option Entry) Refusal → Type 0

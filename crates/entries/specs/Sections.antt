@@ -1,17 +1,12 @@
 -- Slots by sections, one for each kind: heads, places in file order, and the faults of a head and a body.
 use Rattle.std.specs.Prelude.{ℕ, ◌+◌, ◌-◌, ◌*◌, ◌/◌, ◌%◌, cond, ◌&&◌, List, [], ◌∷◌, ◌==◌, nat_lt}
+use Rattle.entries.specs.declared.head.Head.{Head}
 
 -- the numbers of firsts and of subs, and the fault, 5 to 7, or 0, of a body by its sub
 pub record Section : Type 0 where
   pub firsts : ℕ
   pub subs : ℕ
   pub fault : ℕ → List ℕ → ℕ
-
--- the bytes that name a slot
-pub record Head : Type 0 where
-  pub kind : ℕ
-  pub first : ℕ
-  pub sub : ℕ
 
 -- how many slots a section has, and a list of them
 abbrev pub width : Section → ℕ

@@ -3,5 +3,5 @@
 
 pub mod cursor;
 pub mod entry;
+pub mod head;
 pub mod reader;
-pub mod slots;

@@ -2,7 +2,7 @@
 use Rattle.std.proofs.Common.{◌≡◌, ℕ, ◌+◌, ◌<◌, List, ◌++◌, length, sym, ap, ◌∙◌, zero-add, length-append}
 use mathlib.Core.Path.{fun_ext}
 use Rattle.entries.specs.Files.{mark, head_fault}
-use Rattle.entries.specs.Sections.{Head}
+use Rattle.entries.specs.declared.head.Head.{Head}
 use Rattle.entries.specs.Table.{kinds}
 use Rattle.ledger.specs.Slots.{entry, entries_from, head_at, entry_of}
 use Rattle.ledger.specs.Views.{Holding, tabulated, slots_from, joined_below}

@@ -2,7 +2,8 @@
 use Rattle.std.proofs.Common.{◌≡◌, ℕ, zero, suc, ◌+◌, ◌*◌, ◌≤◌, cond, ◌&&◌, eqb, ltb, leb, List, [], ◌∷◌, length, Some, None, sym, refl, ap, ◌∙◌, subst, ⊎_elim, arith}
 use Rattle.std.proofs.lemmas.List.{length-append}
 use Rattle.std.proofs.lemmas.Bool.{leb-true, lt-ltb, le-ltb, and_parts, eq-eqb, ne_eqb, cases_eq, cases_lt, cases_Bool, cond-true, cond-false}
-use Rattle.entries.specs.Sections.{Section, Head, head_fault_from, body_fault_from}
+use Rattle.entries.specs.Sections.{Section, head_fault_from, body_fault_from}
+use Rattle.entries.specs.declared.head.Head.{Head}
 use Rattle.bodies.specs.Bodies.{sized, most_steps, curve_fault, amount_fault, parameter_fault, remark_fault}
 use Rattle.entries.specs.Table.{kinds}
 use Rattle.bodies.proofs.Stepping.{length_curve_steps}

@@ -2,7 +2,8 @@
 use Rattle.std.proofs.Common.{◌≡◌, ℕ, zero, suc, ◌+◌, ◌-◌, ◌*◌, ◌/◌, ◌%◌, ◌<◌, List, [], ◌∷◌, ◌++◌, sym, refl, ap, ◌∙◌, suc-mul, arith}
 use Rattle.std.proofs.lemmas.Nat.{div-mul-add, mod-mul-add}
 use Rattle.std.proofs.lemmas.List.{append_assoc, append-nil}
-use Rattle.entries.specs.Sections.{Section, Head, width, total, head_from}
+use Rattle.entries.specs.Sections.{Section, width, total, head_from}
+use Rattle.entries.specs.declared.head.Head.{Head}
 use Rattle.entries.specs.Entries.{head}
 use Rattle.ledger.specs.Views.{joined_below, by_heads}
 use Rattle.ledger.proofs.Places.{head_here, head_there}

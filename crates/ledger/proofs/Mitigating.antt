@@ -24,7 +24,7 @@ use Rattle.charges.specs.Findings.{Meanings}
 use Rattle.bodies.specs.Numbers.{word, number}
 use Rattle.bodies.specs.Curves.{curve_steps}
 use Rattle.bodies.specs.Bodies.{standing_of, parameter_fault}
-use Rattle.entries.specs.Sections.{Head}
+use Rattle.entries.specs.declared.head.Head.{Head}
 use Rattle.entries.specs.Entries.{head}
 use Rattle.entries.specs.Files.{head_fault}
 use Rattle.entries.specs.Table.{kinds}

@@ -20,7 +20,7 @@ use Rattle.charges.proofs.Totals.{total_same}
 use Rattle.bodies.specs.Numbers.{word, number}
 use Rattle.bodies.specs.Curves.{curve_steps}
 use Rattle.bodies.specs.Bodies.{standing_of}
-use Rattle.entries.specs.Sections.{Head}
+use Rattle.entries.specs.declared.head.Head.{Head}
 use Rattle.entries.specs.Entries.{head}
 use Rattle.entries.specs.Files.{first_fault, head_of, body_of, followed, head_fault, post_fault}
 use Rattle.entries.specs.Table.{kinds}

@@ -2,7 +2,8 @@
 use Rattle.std.proofs.Common.{◌≡◌, ℕ, ◌+◌, ◌-◌, ◌*◌, ◌/◌, ◌%◌, ◌<◌, ◌≤◌, cond, ◌&&◌, ltb, List, [], ◌∷◌, sym, refl, ap, ◌∙◌, ⊎_elim, arith}
 use Rattle.std.proofs.lemmas.Nat.{div-add-mod', mul-add-lt, div-mul-add, mod-mul-add, div_below, mod_below}
 use Rattle.std.proofs.lemmas.Bool.{cond-true, cond-false, lt-ltb, le-ltb, ltb-true, eq-eqb, ne_eqb, cases_lt, cases_eq, cases_Bool, and_parts, and_from}
-use Rattle.entries.specs.Sections.{Section, Head, width, total, head_from, place_from, head_fault_from}
+use Rattle.entries.specs.Sections.{Section, width, total, head_from, place_from, head_fault_from}
+use Rattle.entries.specs.declared.head.Head.{Head}
 
 -- every section has subs
 abbrev pub Solid : List Section → Type 0

@@ -3,7 +3,8 @@ use Rattle.std.proofs.Common.{◌≡◌, ℕ, zero, suc, ◌+◌, ◌/◌, ◌%�
 use Rattle.std.proofs.lemmas.List.{append_assoc, length-append, length_push, take_at, drop_at, drop-drop, set_at}
 use Rattle.std.proofs.lemmas.Bool.{cond-true, cond-false, le-ltb, eq-eqb, ne_eqb}
 use Rattle.bodies.specs.Numbers.{size}
-use Rattle.entries.specs.Sections.{Section, Head, total}
+use Rattle.entries.specs.Sections.{Section, total}
+use Rattle.entries.specs.declared.head.Head.{Head}
 use Rattle.entries.specs.Files.{Told, no_fault, body_of, entry_length, short, mark, mark_fault, head_fault, body_fault, entry_fault, entries_fault, file_fault}
 use Rattle.ledger.specs.Slots.{Slots, head_at, place, put, filled, load, entries_from, entry_file, content_fault, WellFormed}
 use Rattle.ledger.specs.Ledger.{loaded, nothing, empty, fault, step}

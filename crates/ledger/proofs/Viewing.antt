@@ -2,7 +2,7 @@
 use Rattle.std.proofs.Common.{◌≡◌, ℕ, zero, suc, ◌<◌, List, [], ◌∷◌, length, get_or, set, replicate, None, Option, sym, ap, ◌∙◌, ⊎_elim, arith}
 use Rattle.std.proofs.lemmas.List.{ext_get_or, length-set, length-replicate, get_or-replicate, get_or_append_left, get_or_push, get_or-set_same, get_or-set_other}
 use Rattle.std.proofs.lemmas.Bool.{cases_eq}
-use Rattle.entries.specs.Sections.{Head}
+use Rattle.entries.specs.declared.head.Head.{Head}
 use Rattle.entries.specs.Files.{head_fault}
 use Rattle.entries.specs.Table.{kinds}
 use Rattle.ledger.specs.Slots.{head_at, place}

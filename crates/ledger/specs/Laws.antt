@@ -1,6 +1,7 @@
 -- The laws of slots, entry files and ledgers.
 use Rattle.std.specs.Prelude.{◌≡◌, ℕ, ◌+◌, ◌<◌, ◌≤◌, true, List, ◌++◌, length, Some, None, Option, slice_index_or, slice_set}
-use Rattle.entries.specs.Sections.{Head, total}
+use Rattle.entries.specs.Sections.{total}
+use Rattle.entries.specs.declared.head.Head.{Head}
 use Rattle.entries.specs.Files.{entry_bytes, mark, no_fault, head_fault, file_fault}
 use Rattle.entries.specs.Table.{kinds}
 use Rattle.ledger.specs.Slots.{Slots, head_at, place, load, entry_of, entry, entries_from, entry_file, WellFormed}

@@ -1,6 +1,7 @@
 -- The plain ledger of a list of calls, which is told their arguments alone.
 use Rattle.std.specs.Prelude.{ℕ, Bool, true, false, cond, List, [], ◌∷◌, replicate, is_some, None, Option, ◌==◌, slice_index_or, slice_set}
-use Rattle.entries.specs.Sections.{Section, Head, total}
+use Rattle.entries.specs.Sections.{Section, total}
+use Rattle.entries.specs.declared.head.Head.{Head}
 use Rattle.entries.specs.Files.{Told, first_fault, head_fault, post_fault, file_fault}
 use Rattle.ledger.specs.Slots.{Slots, place, put, load}
 

@@ -15,7 +15,7 @@ use Rattle.verdicts.specs.Rules.{impact}
 use Rattle.charges.specs.Findings.{Meanings, finding}
 use Rattle.answers.specs.Answers.{conduct}
 use Rattle.bodies.specs.Bodies.{standing_of}
-use Rattle.entries.specs.Sections.{Head}
+use Rattle.entries.specs.declared.head.Head.{Head}
 use Rattle.entries.specs.Files.{head_of, head_fault, no_fault}
 use Rattle.entries.specs.Table.{kinds}
 use Rattle.ledger.specs.Slots.{Slots, WellFormed}

@@ -1,6 +1,7 @@
 -- The slots of an hour in file order: which head names which, how a file fills them, and the file drawn from them.
 use Rattle.std.specs.Prelude.{◌≡◌, ℕ, zero, suc, ◌+◌, cond, List, [], ◌∷◌, ◌++◌, length, drop, Some, None, Option, ◌==◌, slice_index_or, slice_set}
-use Rattle.entries.specs.Sections.{Section, Head, total, head_from, place_from}
+use Rattle.entries.specs.Sections.{Section, total, head_from, place_from}
+use Rattle.entries.specs.declared.head.Head.{Head}
 use Rattle.entries.specs.Files.{entry_bytes, head_of, body_of, entry_length, mark, body_fault}
 
 -- each slot holds the bytes of its body, or is empty

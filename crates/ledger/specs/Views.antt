@@ -1,6 +1,7 @@
 -- Slots given by what each head holds, and lists given place by place.
 use Rattle.std.specs.Prelude.{◌≡◌, ℕ, zero, suc, ◌+◌, List, [], ◌∷◌, ◌++◌, Option, ◌≢◌}
-use Rattle.entries.specs.Sections.{Section, Head}
+use Rattle.entries.specs.Sections.{Section}
+use Rattle.entries.specs.declared.head.Head.{Head}
 use Rattle.entries.specs.Entries.{head}
 use Rattle.entries.specs.Files.{head_fault}
 use Rattle.entries.specs.Table.{kinds}

@@ -14,7 +14,7 @@ use Rattle.bodies.specs.Numbers.{number_bytes}
 use Rattle.bodies.specs.Curves.{curve_bytes}
 use Rattle.entries.specs.Entries.{head}
 use Rattle.entries.specs.Files.{head_fault}
-use Rattle.entries.specs.Sections.{Head}
+use Rattle.entries.specs.declared.head.Head.{Head}
 use Rattle.entries.specs.Table.{kinds}
 use Rattle.ledger.specs.Mitigation.{substituted, mitigated_bytes, mitigated_body, mitigated_held}
 use Rattle.ledger.proofs.Holdings.{held_from}

@@ -1,5 +1,5 @@
 -- A record of which one field is written: its slots.
-use Rattle.std.proofs.Common.{◌≡◌, ℕ, ◌-◌, ◌<◌, ◌≤◌, true, cond, eqb, ltb, List, length, get_or, set, ℤ, None, Option, sym, refl, ap, ◌∙◌, ⊎_elim, arith, get_or-set_other, get_or-set_same}
+use Rattle.std.proofs.Common.{◌≡◌, ℕ, ◌-◌, ◌<◌, ◌≤◌, Bool, true, cond, eqb, ltb, List, length, get_or, set, ℤ, is_some, Some, None, Option, sym, refl, ap, ◌∙◌, subst, ⊎_elim, arith, get_or-set_other, get_or-set_same}
 use Rattle.std.proofs.lemmas.Bool.{cond-true, cond-false, cases_Bool, eqb-true, lt-ltb, le-ltb, ltb-false, and_parts, and_from}
 use Rattle.std.specs.Option.{option_map}
 use Rattle.curves.specs.declared.row.Row.{Row}
@@ -10,6 +10,9 @@ use Rattle.vocabulary.specs.declared.resource.Remark.{Remark}
 use Rattle.vocabulary.specs.declared.resource.Resource.{Resource}
 use Rattle.vocabulary.specs.Readings.{no_row}
 use Rattle.bodies.specs.Bodies.{standing_bytes, most_steps}
+use Rattle.entries.specs.Entries.{Raw, raw_of}
+use Rattle.entries.specs.declared.entry.Entry.{Entry}
+use Rattle.entries.specs.declared.head.Head.{Head}
 use Rattle.bodies.specs.Curves.{curve_bytes}
 use Rattle.bodies.specs.Numbers.{word_bytes, number_bytes}
 use Rattle.table.specs.Ranges.{every, amount_ranged, price_ranged, quantity_ranged, row_ranged, values_ranged, ranged}
@@ -148,3 +151,15 @@ module _ (v : Values) (sub : ℕ) (body : Option (List ℕ)) where
     };
     kept = λ kept. let p = and_parts (every row_ranged v.curves) (every amount_ranged v.amounts) kept in and_from _ _ p.0 (every_set amount_ranged v.amounts (sub - 4) z keeps p.1);
   }
+
+-- the same of the slot that a head names
+module _ (r : Resource) (h : Head) (k u : ℕ) (kind : k ≡ h.kind) (sub : u ≡ h.sub) where
+  pub changes_at : {r' : Resource} {body : Option (List ℕ)} → Changes r r' k u body → Changes r r' h.kind h.sub body
+  changes_at {r'} {body} c = subst (λ n. Changes r r' n h.sub body) kind (subst (λ n. Changes r r' k n body) sub c)
+
+  pub full_at : (b : Bool) → b ≡ is_some (holds r k u) → b ≡ is_some (holds r h.kind h.sub)
+  full_at b e = e ∙ (λ i. is_some (holds r (kind i) (sub i)))
+
+-- the same of the slot that an entry names
+pub changes_by : {r r' : Resource} (e : Entry) (x : Raw) → raw_of e ≡ x → Changes r r' x.head.kind x.head.sub (Some x.body) → Changes r r' (raw_of e).head.kind (raw_of e).head.sub (Some (raw_of e).body)
+changes_by {r} {r'} e x is c = subst (λ (y : Raw). Changes r r' y.head.kind y.head.sub (Some y.body)) (sym is) c

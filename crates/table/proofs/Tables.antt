@@ -1,14 +1,14 @@
 -- A table of which one record or one line is written: its slots.
-use Rattle.std.proofs.Common.{◌≡◌, ℕ, ◌+◌, ◌*◌, ◌<◌, cond, ◌&&◌, eqb, ltb, ◌≢◌, List, length, get_or, set, None, Option, sym, ap, ◌∙◌, ⊎_elim, arith, get_or-set_other, get_or-set_same}
+use Rattle.std.proofs.Common.{◌≡◌, ℕ, ◌+◌, ◌*◌, ◌<◌, cond, ◌&&◌, eqb, ltb, ◌≢◌, List, length, get_or, set, Some, None, Option, sym, ap, ◌∙◌, ⊎_elim, arith, get_or-set_other, get_or-set_same}
 use Rattle.std.proofs.lemmas.Bool.{cond-false, cases_Bool, cases_eq, ne_eqb, and_parts, ltb-true}
 use Rattle.std.specs.Option.{option_map}
 use Rattle.vocabulary.specs.declared.lines.Terms.{Terms}
 use Rattle.vocabulary.specs.declared.resource.Resource.{Resource}
 use Rattle.vocabulary.specs.Empty.{no_resource}
 use Rattle.bodies.specs.Bodies.{terms_bytes}
-use Rattle.entries.specs.Entries.{head}
+use Rattle.entries.specs.Entries.{Raw, head}
 use Rattle.entries.specs.Files.{head_fault}
-use Rattle.entries.specs.Sections.{Head}
+use Rattle.entries.specs.declared.head.Head.{Head}
 use Rattle.entries.specs.Table.{kinds}
 use Rattle.ledger.specs.Slots.{place}
 use Rattle.ledger.specs.Views.{slots_from}
@@ -43,6 +43,14 @@ module _ (lines : List (Option Terms)) (rs : List Resource) where
         views.changed (table_holds lines rs) (table_holds lines (set rs i r)) (head k i u) slot elsewhere
         ∙ ap (set (slots_from (table_holds lines rs)) (place kinds (head k i u)))
         (cond-false _ _ _ (ne_eqb k 1 ne) ∙ ap (λ (w : Resource). holds w k u) (get_or-set_same rs i r no_resource within) ∙ changed.here)
+
+  -- the same of the slot that an entry names
+  pub entry_written : {i : ℕ} {r : Resource} (x : Raw) → Changed (get_or rs i no_resource) r x.head.kind x.head.sub (Some x.body) → x.head.first ≡ i → i < length rs → x.head.kind ≢ 1 → head_fault kinds x.head ≡ 0
+      → slots_from (table_holds lines (set rs i r)) ≡ set (slots_from (table_holds lines rs)) (place kinds x.head) (Some x.body)
+  entry_written {i} {r} x changed first within ne slot =
+      let named : x.head ≡ head x.head.kind i x.head.sub = λ j. record { kind = x.head.kind; first = first j; sub = x.head.sub } in
+      record_written i r x.head.kind x.head.sub (Some x.body) ne within (ap (head_fault kinds) (sym named) ∙ slot) changed
+      ∙ ap (λ (h : Head). set (slots_from (table_holds lines rs)) (place kinds h) (Some x.body)) (sym named)
 
   -- what a slot of a record, or of a line, holds
   pub record_read : (k i u : ℕ) → k ≢ 1 → head_fault kinds (head k i u) ≡ 0 → get_or (slots_from (table_holds lines rs)) (place kinds (head k i u)) None ≡ holds (get_or rs i no_resource) k u

@@ -1,6 +1,6 @@
 // The slots of an hour: an entry is taken into one, or one is emptied.
 ghost use Rattle.std.specs.Prelude.{◌≡◌, is_some, Some, None, slice_index_or, slice_set};
-ghost use Rattle.bodies.specs.Bodies.{line_fault, standing_fault, parameter_fault, quantity_fault, price_fault, remark_fault};
+ghost use Rattle.bodies.specs.Bodies.{line_fault};
 ghost use Rattle.entries.specs.Entries.{head, raw_of};
 ghost use Rattle.entries.specs.Files.{head_fault, body_fault};
 ghost use Rattle.entries.specs.Table.{kinds};
@@ -13,6 +13,7 @@ use crate::hour::Table;
 use crate::record;
 use bodies::lines::read_line;
 use entries::entry::Entry;
+use entries::head::Head;
 use vocabulary::lines::Terms;
 use vocabulary::resource::Resource;
 
@@ -38,66 +39,6 @@ impl Table {
         }
     }
 
-    fn take_standing(&mut self, resource: u8, body: &[u8])
-        requires slot { head_fault kinds (head 2 resource 0) ≡ 0 }
-        requires fault { standing_fault body.now ≡ 0 }
-        ensures slots { slots_of self.new ≡ slice_set (slots_of self.old) (place kinds (head 2 resource 0)) (Some body.now) }
-        ensures ranged { AllRanged self.old → AllRanged self.new }
-    {
-        let one = &mut self.resources[resource as usize];
-        record::take_standing(one, body);
-    }
-
-    fn take_offer(&mut self, resource: u8, parameter: u8, body: &[u8])
-        requires slot { head_fault kinds (head 3 resource parameter) ≡ 0 }
-        requires fault { parameter_fault parameter body.now ≡ 0 }
-        ensures slots { slots_of self.new ≡ slice_set (slots_of self.old) (place kinds (head 3 resource parameter)) (Some body.now) }
-        ensures ranged { AllRanged self.old → AllRanged self.new }
-    {
-        let one = &mut self.resources[resource as usize];
-        record::take_offer(one, parameter, body);
-    }
-
-    fn take_reference(&mut self, resource: u8, parameter: u8, body: &[u8])
-        requires slot { head_fault kinds (head 4 resource parameter) ≡ 0 }
-        requires fault { parameter_fault parameter body.now ≡ 0 }
-        ensures slots { slots_of self.new ≡ slice_set (slots_of self.old) (place kinds (head 4 resource parameter)) (Some body.now) }
-        ensures ranged { AllRanged self.old → AllRanged self.new }
-    {
-        let one = &mut self.resources[resource as usize];
-        record::take_reference(one, parameter, body);
-    }
-
-    fn take_quantity(&mut self, resource: u8, product: u8, body: &[u8])
-        requires slot { head_fault kinds (head 5 resource product) ≡ 0 }
-        requires fault { quantity_fault body.now ≡ 0 }
-        ensures slots { slots_of self.new ≡ slice_set (slots_of self.old) (place kinds (head 5 resource product)) (Some body.now) }
-        ensures ranged { AllRanged self.old → AllRanged self.new }
-    {
-        let one = &mut self.resources[resource as usize];
-        record::take_quantity(one, product as usize, body);
-    }
-
-    fn take_price(&mut self, resource: u8, run: u8, body: &[u8])
-        requires slot { head_fault kinds (head 6 resource run) ≡ 0 }
-        requires fault { price_fault body.now ≡ 0 }
-        ensures slots { slots_of self.new ≡ slice_set (slots_of self.old) (place kinds (head 6 resource run)) (Some body.now) }
-        ensures ranged { AllRanged self.old → AllRanged self.new }
-    {
-        let one = &mut self.resources[resource as usize];
-        record::take_price(one, run as usize, body);
-    }
-
-    fn take_remark(&mut self, resource: u8, body: &[u8])
-        requires slot { head_fault kinds (head 7 resource 0) ≡ 0 }
-        requires fault { remark_fault body.now ≡ 0 }
-        ensures slots { slots_of self.new ≡ slice_set (slots_of self.old) (place kinds (head 7 resource 0)) (Some body.now) }
-        ensures ranged { AllRanged self.old → AllRanged self.new }
-    {
-        let one = &mut self.resources[resource as usize];
-        record::take_remark(one, body);
-    }
-
     // Stores what an entry without a fault says, in the slot that it names.
     pub fn take(&mut self, entry: Entry)
         requires slot { head_fault kinds (raw_of entry).head ≡ 0 }
@@ -112,122 +53,37 @@ impl Table {
                 body,
                 ..
             } => self.take_line(condition, test, body),
-            Entry::Standing { resource, body, .. } => self.take_standing(resource, body),
-            Entry::Offer {
-                resource,
-                parameter,
-                body,
-                ..
-            } => self.take_offer(resource, parameter, body),
-            Entry::Reference {
-                resource,
-                parameter,
-                body,
-                ..
-            } => self.take_reference(resource, parameter, body),
-            Entry::Quantity {
-                resource,
-                product,
-                body,
-                ..
-            } => self.take_quantity(resource, product, body),
-            Entry::Price {
-                resource,
-                run,
-                body,
-                ..
-            } => self.take_price(resource, run, body),
-            Entry::Remark { resource, body, .. } => self.take_remark(resource, body),
+            Entry::Standing { resource, .. }
+            | Entry::Offer { resource, .. }
+            | Entry::Reference { resource, .. }
+            | Entry::Quantity { resource, .. }
+            | Entry::Price { resource, .. }
+            | Entry::Remark { resource, .. } => {
+                record::take(&mut self.resources[resource as usize], entry);
+            }
         }
     }
 
-    fn empty_line(&mut self, condition: u8, test: u8) -> bool
+    fn clear_line(&mut self, condition: u8, test: u8) -> bool
         requires { head_fault kinds (head 1 condition test) ≡ 0 }
         ensures slots { slots_of self.new ≡ slice_set (slots_of self.old) (place kinds (head 1 condition test)) None }
         ensures was { result ≡ is_some (slice_index_or (slots_of self.old) (place kinds (head 1 condition test)) None) }
         ensures ranged { AllRanged self.old → AllRanged self.new }
     {
         let at = 10 * condition as usize + test as usize;
-        let terms = self.lines[at];
-        self.lines[at] = None;
-        terms.is_some()
-    }
-
-    fn empty_standing(&mut self, resource: u8) -> bool
-        requires { head_fault kinds (head 2 resource 0) ≡ 0 }
-        ensures slots { slots_of self.new ≡ slice_set (slots_of self.old) (place kinds (head 2 resource 0)) None }
-        ensures was { result ≡ is_some (slice_index_or (slots_of self.old) (place kinds (head 2 resource 0)) None) }
-        ensures ranged { AllRanged self.old → AllRanged self.new }
-    {
-        let one = &mut self.resources[resource as usize];
-        record::empty_standing(one)
-    }
-
-    fn empty_offer(&mut self, resource: u8, parameter: u8) -> bool
-        requires { head_fault kinds (head 3 resource parameter) ≡ 0 }
-        ensures slots { slots_of self.new ≡ slice_set (slots_of self.old) (place kinds (head 3 resource parameter)) None }
-        ensures was { result ≡ is_some (slice_index_or (slots_of self.old) (place kinds (head 3 resource parameter)) None) }
-        ensures ranged { AllRanged self.old → AllRanged self.new }
-    {
-        let one = &mut self.resources[resource as usize];
-        record::empty_offer(one, parameter)
-    }
-
-    fn empty_reference(&mut self, resource: u8, parameter: u8) -> bool
-        requires { head_fault kinds (head 4 resource parameter) ≡ 0 }
-        ensures slots { slots_of self.new ≡ slice_set (slots_of self.old) (place kinds (head 4 resource parameter)) None }
-        ensures was { result ≡ is_some (slice_index_or (slots_of self.old) (place kinds (head 4 resource parameter)) None) }
-        ensures ranged { AllRanged self.old → AllRanged self.new }
-    {
-        let one = &mut self.resources[resource as usize];
-        record::empty_reference(one, parameter)
-    }
-
-    fn empty_quantity(&mut self, resource: u8, product: u8) -> bool
-        requires { head_fault kinds (head 5 resource product) ≡ 0 }
-        ensures slots { slots_of self.new ≡ slice_set (slots_of self.old) (place kinds (head 5 resource product)) None }
-        ensures was { result ≡ is_some (slice_index_or (slots_of self.old) (place kinds (head 5 resource product)) None) }
-        ensures ranged { AllRanged self.old → AllRanged self.new }
-    {
-        let one = &mut self.resources[resource as usize];
-        record::empty_quantity(one, product as usize)
-    }
-
-    fn empty_price(&mut self, resource: u8, run: u8) -> bool
-        requires { head_fault kinds (head 6 resource run) ≡ 0 }
-        ensures slots { slots_of self.new ≡ slice_set (slots_of self.old) (place kinds (head 6 resource run)) None }
-        ensures was { result ≡ is_some (slice_index_or (slots_of self.old) (place kinds (head 6 resource run)) None) }
-        ensures ranged { AllRanged self.old → AllRanged self.new }
-    {
-        let one = &mut self.resources[resource as usize];
-        record::empty_price(one, run as usize)
-    }
-
-    fn empty_remark(&mut self, resource: u8) -> bool
-        requires { head_fault kinds (head 7 resource 0) ≡ 0 }
-        ensures slots { slots_of self.new ≡ slice_set (slots_of self.old) (place kinds (head 7 resource 0)) None }
-        ensures was { result ≡ is_some (slice_index_or (slots_of self.old) (place kinds (head 7 resource 0)) None) }
-        ensures ranged { AllRanged self.old → AllRanged self.new }
-    {
-        let one = &mut self.resources[resource as usize];
-        record::empty_remark(one)
+        self.lines[at].take().is_some()
     }
 
     // Leaves the slot that a head names empty, and says whether it was full.
-    pub fn clear(&mut self, kind: u8, first: u8, sub: u8) -> bool
-        requires { head_fault kinds (head kind first sub) ≡ 0 }
-        ensures slots { slots_of self.new ≡ slice_set (slots_of self.old) (place kinds (head kind first sub)) None }
-        ensures was { result ≡ is_some (slice_index_or (slots_of self.old) (place kinds (head kind first sub)) None) }
+    pub fn clear(&mut self, head: Head) -> bool
+        requires { head_fault kinds head ≡ 0 }
+        ensures slots { slots_of self.new ≡ slice_set (slots_of self.old) (place kinds head) None }
+        ensures was { result ≡ is_some (slice_index_or (slots_of self.old) (place kinds head) None) }
         ensures ranged { AllRanged self.old → AllRanged self.new }
     {
-        match kind {
-            1 => self.empty_line(first, sub),
-            2 => self.empty_standing(first),
-            3 => self.empty_offer(first, sub),
-            4 => self.empty_reference(first, sub),
-            5 => self.empty_quantity(first, sub),
-            6 => self.empty_price(first, sub),
-            _ => self.empty_remark(first),
+        match head.kind {
+            1 => self.clear_line(head.first, head.sub),
+            _ => record::clear(&mut self.resources[head.first as usize], head),
         }
     }
 }

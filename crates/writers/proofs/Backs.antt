@@ -11,7 +11,7 @@ use Rattle.bodies.specs.Bodies.{unless_in_range, between, terms_of, terms_bytes,
 use Rattle.bodies.specs.Curves.{curve_bytes, steps_fault}
 use Rattle.entries.specs.Entries.{Raw, raw}
 use Rattle.entries.specs.Files.{entry_bytes, entry_at, body_of}
-use Rattle.entries.specs.Sections.{Head}
+use Rattle.entries.specs.declared.head.Head.{Head}
 use Rattle.bodies.proofs.Bytes.{number_back_alone}
 use Rattle.bodies.proofs.Backs.{length_curve, curve_back as steps_back}
 use Rattle.writers.specs.Buffers.{onto}

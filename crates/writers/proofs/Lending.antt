@@ -6,7 +6,7 @@ use Rattle.curves.specs.declared.step.Step.{Step}
 use Rattle.bodies.specs.Curves.{step_bytes, curve_bytes}
 use Rattle.entries.specs.Files.{head_bytes, entry_bytes}
 use Rattle.bodies.specs.Numbers.{word_bytes}
-use Rattle.entries.specs.Sections.{Head}
+use Rattle.entries.specs.declared.head.Head.{Head}
 use Rattle.bodies.proofs.Backs.{length_curve}
 use Rattle.writers.specs.Buffers.{onto}
 

@@ -12,10 +12,7 @@ pub fn check_room(out: &[u8], place: usize, n: usize) -> Result<(), Refusal>
     ensures { MatchResult result (λ _. place + n ≤ length out.now) (λ r. (r ≡ record { fault = Room; place = 0 }) × (length out.now < place + n)) }
 {
     if place > out.len() || out.len() - place < n {
-        return Err(Refusal {
-            fault: Fault::Room,
-            place: 0,
-        });
+        return Err(Fault::Room.into());
     }
     Ok(())
 }
