@@ -5,7 +5,7 @@ ghost use Rattle.bodies.specs.Faults.{fault_number};
 // What is wrong with bytes (Short to Room), or with a call at this hour (Closed, Empty).
 #[derive(Clone, Copy, PartialEq, Eq, Debug)]
 pub enum Fault {
-    Short,
+    Short = 1,
     Mark,
     Kind,
     Slot,
@@ -13,7 +13,7 @@ pub enum Fault {
     Range,
     Order,
     Room,
-    Closed,
+    Closed = 21,
     Empty,
 }
 
@@ -37,17 +37,6 @@ impl Fault {
     pub fn number(self) -> u8
         ensures { result ≡ fault_number self }
     {
-        match self {
-            Fault::Short => 1,
-            Fault::Mark => 2,
-            Fault::Kind => 3,
-            Fault::Slot => 4,
-            Fault::Length => 5,
-            Fault::Range => 6,
-            Fault::Order => 7,
-            Fault::Room => 8,
-            Fault::Closed => 21,
-            Fault::Empty => 22,
-        }
+        self as u8
     }
 }

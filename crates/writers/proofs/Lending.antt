@@ -1,7 +1,7 @@
 -- A buffer whose rest is lent on.
 use Rattle.std.proofs.Common.{◌≡◌, ℕ, ◌+◌, ◌-◌, ◌*◌, ◌<◌, ◌≤◌, List, [], ◌∷◌, ◌++◌, length, get_or, take, drop, sym, refl, ap, ◌∙◌, append_assoc, arith, length-append, length-drop}
 use borrow.Rule.Slice.PartMut.{put_mid}
-use Rattle.std.proofs.lemmas.List.{take_at, drop_at, take_rest, take_more, drop-drop, drop_all, append-nil, length-take-le}
+use Rattle.std.proofs.lemmas.List.{take_all, take_at, drop_at, take_rest, take_more, drop-drop, drop_all, append-nil, length-take-le}
 use Rattle.curves.specs.declared.step.Step.{Step}
 use Rattle.bodies.specs.Curves.{step_bytes, curve_bytes}
 use Rattle.entries.specs.Files.{head_bytes, entry_bytes}
@@ -58,11 +58,11 @@ module _ {steps : List Step} {old out : List ℕ} {at k : ℕ} (so : Stepped ste
             ∙ ap (λ x. onto x old) (ap (λ x. curve_bytes (take k steps) ++ x) is ∙ sym (curve_push (take k steps) (get_or steps k d)) ∙ ap curve_bytes (sym (take_more steps k d h)));
       }
 
-  pub stepped_end : (n : ℕ) → k ≡ n → n ≤ length steps → (at ≡ 8 * n) × (at ≡ length (curve_bytes (take n steps))) × (out ≡ onto (curve_bytes (take n steps)) old)
-  stepped_end n e h =
+  pub stepped_end : k ≡ length steps → (at ≡ length (curve_bytes steps)) × (out ≡ onto (curve_bytes steps) old)
+  stepped_end e =
       let o = so.here in
-      let long = length_curve (take n steps) ∙ ap (λ m. 8 * m) (length-take-le n steps h) in
-      (omega arith, omega arith, so.bytes ∙ ap (λ m. onto (curve_bytes (take m steps)) old) e)
+      let long = length_curve steps in
+      (omega arith, so.bytes ∙ ap (λ x. onto (curve_bytes x) old) (take_all k steps (omega arith)))
 
 -- the head of an entry has the length of its body
 pub headed : (h : Head) (n : ℕ) (body old : List ℕ) → n ≡ length body → onto (head_bytes h n ++ body) old ≡ onto (entry_bytes h body) old

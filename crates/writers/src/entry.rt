@@ -76,8 +76,8 @@ fn write_steps(out: &mut [u8], row: Row) -> usize
     ensures bytes { out.new ≡ onto (curve_bytes (row_steps row)) out.old }
 {
     let mut at = 0;
-    for k in 0..row.count {
-        at += write_bytes(&mut out[at..], &step_bytes(row.steps[k]));
+    for step in &row.steps[..row.count] {
+        at += write_bytes(&mut out[at..], &step_bytes(*step));
     }
     at
 }

@@ -1,12 +1,15 @@
-use Rattle.std.proofs.Common.{arith}
+use Rattle.std.proofs.Common.{◌≡◌, length, arith}
+use Rattle.std.proofs.lemmas.List.{length-take-le}
+use Rattle.curves.specs.Rows.{row_steps}
 use Rattle.writers.proofs.Lending.{stepped_more, stepped_end}
 use Rattle.writers.proofs.entry.write_steps.Goals as goal
 
-pub loop-k-preserved : goal.loop-k-preserved
-loop-k-preserved c =
-    stepped_more c.loop-k.invariant _ (omega arith) _ _ c.step_bytes.ensures c.write_bytes-at.ensures.bytes _ c.write_bytes-at.ensures.len
+pub loop-step-preserved : goal.loop-step-preserved
+loop-step-preserved c =
+    stepped_more c.loop-step.invariant _ (omega arith) _ _ c.step_bytes.ensures c.write_bytes-at.ensures.bytes _ c.write_bytes-at.ensures.len
 
 pub returns : goal.returns
 returns c =
-    let done = stepped_end c.loop-k.invariant c.args.row.count (omega arith) (omega arith) in
-    record { len = done.0; whole = done.1; bytes = done.2 }
+    let long : length (row_steps c.args.row) ≡ c.args.row.count = length-take-le c.args.row.count c.args.row.steps (omega arith) in
+    let done = stepped_end c.loop-step.invariant (omega arith) in
+    record { len = omega arith; whole = done.0; bytes = done.1 }

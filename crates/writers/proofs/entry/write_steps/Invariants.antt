@@ -1,5 +1,5 @@
 use Rattle.writers.proofs.Lending.{Stepped}
 use Rattle.writers.proofs.entry.write_steps.Given as goal
 
-abbrev pub invariant-loop-k : goal.invariant-loop-k
-invariant-loop-k l = Stepped l.row.steps l.initial.out l.out l.at l.k
+abbrev pub invariant-loop-step : goal.invariant-loop-step
+invariant-loop-step l = Stepped l.step-items l.initial.out l.out l.at l.step-index
