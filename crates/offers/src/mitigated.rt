@@ -14,6 +14,7 @@ ghost use Rattle.offers.specs.Rows.{mitigated_rows};
 
 use bounds::bound::{BoundAbove, BoundBelow};
 use curves::curve::Curve;
+use entries::head::Head;
 use files::filled::Filled;
 use files::hour::number_slot;
 use files::slots::Slots;
@@ -85,16 +86,16 @@ impl<'a, C: BoundBelow, A: BoundBelow, I: BoundBelow, Q: BoundAbove> Slots
     for Mitigated<'a, C, A, I, Q> {
     ghost holding = { λ s. mitigated_rows (meant_by C.Bound.meaning A.Bound.meaning I.Bound.meaning Q.Bound.meaning s.places.now) s.table.now };
 
-    fn slot(&self, kind: u8, first: u8, sub: u8) -> Option<Filled> {
-        match kind {
+    fn slot(&self, head: Head) -> Option<Filled> {
+        match head.kind {
             3 => offer_slot(
                 self.places,
                 &self.table.lines,
-                &self.table.resources[first as usize],
-                first,
-                sub,
+                &self.table.resources[head.first as usize],
+                head.first,
+                head.sub,
             ),
-            _ => self.table.slot(kind, first, sub),
+            _ => self.table.slot(head),
         }
     }
 }
