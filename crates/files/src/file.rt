@@ -18,8 +18,8 @@ fn entries_length<S: Slots>(slots: &S) -> usize
 {
     let mut sum = 0;
     for place in 0..PLACES {
-        let (kind, first, sub) = head_at(place);
-        sum += slot_length(slots.slot(kind, first, sub));
+        let head = head_at(place);
+        sum += slot_length(slots.slot(head));
     }
     sum
 }
@@ -39,8 +39,8 @@ fn write_entries<S: Slots>(slots: &S, out: &mut [u8]) -> usize
 {
     let mut at = 0;
     for place in 0..PLACES {
-        let (kind, first, sub) = head_at(place);
-        at += write_slot(slots.slot(kind, first, sub), &mut out[at..]);
+        let head = head_at(place);
+        at += write_slot(slots.slot(head), &mut out[at..]);
     }
     at
 }

@@ -4,18 +4,24 @@ ghost use Rattle.entries.specs.Entries.{head};
 ghost use Rattle.entries.specs.Table.{kinds};
 ghost use Rattle.ledger.specs.Slots.{head_at as head_of_place};
 
+use entries::head::Head;
+
 // The head at a place of its kind, of which each first has so many subs.
-fn head_of(kind: u8, at: usize, subs: usize) -> (u8, u8, u8)
+fn head_of(kind: u8, at: usize, subs: usize) -> Head
     requires { (0 < subs) × ((subs < 256) × (at < 256 * subs)) }
-    ensures { head result.0 result.1 result.2 ≡ head kind (at / subs) (at % subs) }
+    ensures { result ≡ head kind (at / subs) (at % subs) }
 {
-    (kind, (at / subs) as u8, (at % subs) as u8)
+    Head {
+        kind,
+        first: (at / subs) as u8,
+        sub: (at % subs) as u8,
+    }
 }
 
-// Kind, first and sub of the slot at a place.
-pub fn head_at(place: usize) -> (u8, u8, u8)
+// The head of the slot at a place.
+pub fn head_at(place: usize) -> Head
     requires { place < 1138 }
-    ensures { head result.0 result.1 result.2 ≡ head_of_place kinds place }
+    ensures { result ≡ head_of_place kinds place }
 {
     if place < 50 {
         head_of(1, place, 10)

@@ -18,6 +18,7 @@ use crate::slots::Slots;
 use bodies::steps::most_steps;
 use curves::curve::Curve;
 use curves::row::Row;
+use entries::head::Head;
 use table::hour::Table;
 use vocabulary::lines::Terms;
 use vocabulary::resource::{Remark, Resource, Values};
@@ -137,29 +138,35 @@ fn parameter_slot(kind: u8, resource: u8, parameter: u8, values: &Values) -> Opt
 }
 
 // A slot of a resource's record.
-fn record_slot(one: &Resource, kind: u8, resource: u8, sub: u8) -> Option<Filled>
-    requires kind { 1 < kind }
-    requires slot { head_fault kinds (head kind resource sub) ≡ 0 }
-    ensures bytes { slot_bytes result ≡ entry_of (head kind resource sub) (holds one.now kind sub) }
+fn record_slot(one: &Resource, head: Head) -> Option<Filled>
+    requires kind { 1 < head.kind }
+    requires slot { head_fault kinds head ≡ 0 }
+    ensures bytes { slot_bytes result ≡ entry_of head (holds one.now head.kind head.sub) }
     ensures sound { Sound result }
 {
+    let Head { kind, first, sub } = head;
     match kind {
-        2 => standing_slot(resource, one.standing),
-        3 => parameter_slot(3, resource, sub, &one.offer),
-        4 => parameter_slot(4, resource, sub, &one.reference),
-        5 => quantity_slot(resource, sub, one.quantities[sub as usize]),
-        6 => number_slot(6, resource, sub, one.prices[sub as usize]),
-        _ => remark_slot(resource, one.remark),
+        2 => standing_slot(first, one.standing),
+        3 => parameter_slot(3, first, sub, &one.offer),
+        4 => parameter_slot(4, first, sub, &one.reference),
+        5 => quantity_slot(first, sub, one.quantities[sub as usize]),
+        6 => number_slot(6, first, sub, one.prices[sub as usize]),
+        _ => remark_slot(first, one.remark),
     }
 }
 
 impl Slots for Table {
     ghost holding = { λ t. table_holds t.lines t.resources };
 
-    fn slot(&self, kind: u8, first: u8, sub: u8) -> Option<Filled> {
-        match kind {
-            1 => line_slot(first, sub, self.lines[10 * first as usize + sub as usize]),
-            _ => record_slot(&self.resources[first as usize], kind, first, sub),
+    fn slot(&self, head: Head) -> Option<Filled> {
+        let at = head.first as usize;
+        match head.kind {
+            1 => line_slot(
+                head.first,
+                head.sub,
+                self.lines[10 * at + head.sub as usize],
+            ),
+            _ => record_slot(&self.resources[at], head),
         }
     }
 }

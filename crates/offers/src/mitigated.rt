@@ -13,6 +13,7 @@ ghost use Rattle.offers.specs.Rows.{mitigated_rows};
 
 use charges::rules::Rules;
 use curves::curve::Curve;
+use entries::head::Head;
 use files::filled::Filled;
 use files::hour::number_slot;
 use files::slots::Slots;
@@ -83,16 +84,16 @@ fn offer_slot<R: Rules>(
 impl<'a, R: Rules> Slots for Mitigated<'a, R> {
     ghost holding = { λ s. mitigated_rows (R.meanings s.rules.now) s.table.now };
 
-    fn slot(&self, kind: u8, first: u8, sub: u8) -> Option<Filled> {
-        match kind {
+    fn slot(&self, head: Head) -> Option<Filled> {
+        match head.kind {
             3 => offer_slot(
                 self.rules,
                 &self.table.lines,
-                &self.table.resources[first as usize],
-                first,
-                sub,
+                &self.table.resources[head.first as usize],
+                head.first,
+                head.sub,
             ),
-            _ => self.table.slot(kind, first, sub),
+            _ => self.table.slot(head),
         }
     }
 }

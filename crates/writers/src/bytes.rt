@@ -1,11 +1,12 @@
 // Bytes at the front of a buffer.
 ghost use Rattle.std.specs.Prelude.{◌≡◌, ◌+◌, ◌<◌, ◌≤◌, length, MatchResult};
 ghost use Rattle.bodies.specs.declared.fault.Fault.TheVariants.{Room};
-ghost use Rattle.entries.specs.Entries.{head, raw};
+ghost use Rattle.entries.specs.Entries.{raw};
 ghost use Rattle.entries.specs.Files.{head_bytes, entry_bytes, entry_at, mark};
 ghost use Rattle.writers.specs.Buffers.{onto};
 
 use bodies::fault::{Fault, Refusal};
+use entries::head::Head;
 
 // Whether a buffer has room for n bytes from a place on.
 pub fn check_room(out: &[u8], place: usize, n: usize) -> Result<(), Refusal>
@@ -38,22 +39,31 @@ pub fn write_mark(out: &mut [u8]) -> usize
 }
 
 // The head of an entry, whose body has n bytes.
-pub fn write_head(out: &mut [u8], kind: u8, first: u8, sub: u8, n: usize) -> usize
+pub fn write_head(out: &mut [u8], head: Head, n: usize) -> usize
     requires { (5 ≤ length out.old) × (n < 65536) }
     ensures len { result ≡ 5 }
-    ensures bytes { out.new ≡ onto (head_bytes (head kind first sub) n) out.old }
+    ensures bytes { out.new ≡ onto (head_bytes head n) out.old }
 {
-    write_bytes(out, &[kind, first, sub, (n / 256) as u8, (n % 256) as u8])
+    write_bytes(
+        out,
+        &[
+            head.kind,
+            head.first,
+            head.sub,
+            (n / 256) as u8,
+            (n % 256) as u8,
+        ],
+    )
 }
 
 // An entry of any kind. It is read back with its head and its body.
-pub fn write_entry(out: &mut [u8], kind: u8, first: u8, sub: u8, body: &[u8]) -> usize
+pub fn write_entry(out: &mut [u8], head: Head, body: &[u8]) -> usize
     requires { (length body.now < 65536) × (5 + length body.now ≤ length out.old) }
     ensures len { result ≡ 5 + length body.now }
-    ensures bytes { out.new ≡ onto (entry_bytes (head kind first sub) body.now) out.old }
-    ensures back { entry_at 0 (entry_bytes (head kind first sub) body.now) ≡ raw (head kind first sub) body.now 0 }
-    ensures reads { entry_at 0 out.new ≡ raw (head kind first sub) body.now 0 }
+    ensures bytes { out.new ≡ onto (entry_bytes head body.now) out.old }
+    ensures back { entry_at 0 (entry_bytes head body.now) ≡ raw head body.now 0 }
+    ensures reads { entry_at 0 out.new ≡ raw head body.now 0 }
 {
-    let at = write_head(out, kind, first, sub, body.len());
+    let at = write_head(out, head, body.len());
     at + write_bytes(&mut out[at..], body)
 }

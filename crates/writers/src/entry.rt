@@ -14,6 +14,7 @@ use crate::body::{line_bytes, standing_bytes, step_bytes};
 use crate::bytes::{write_bytes, write_entry, write_head};
 use bodies::numbers::{number_bytes, word_bytes};
 use curves::row::Row;
+use entries::head::Head;
 use vocabulary::lines::Terms;
 use vocabulary::resource::Remark;
 use vocabulary::standing::Standing;
@@ -25,7 +26,12 @@ pub fn write_line(out: &mut [u8], condition: u8, test: u8, terms: &Terms) -> usi
     ensures back { LineBack test terms.now }
     ensures reads { LineReads test terms.now (body_of out.new) }
 {
-    write_entry(out, 1, condition, test, &line_bytes(terms))
+    let head = Head {
+        kind: 1,
+        first: condition,
+        sub: test,
+    };
+    write_entry(out, head, &line_bytes(terms))
 }
 
 pub fn write_standing(out: &mut [u8], resource: u8, standing: &Standing) -> usize
@@ -35,7 +41,12 @@ pub fn write_standing(out: &mut [u8], resource: u8, standing: &Standing) -> usiz
     ensures back { StandingBack standing.now }
     ensures reads { StandingReads standing.now (body_of out.new) }
 {
-    write_entry(out, 2, resource, 0, &standing_bytes(standing))
+    let head = Head {
+        kind: 2,
+        first: resource,
+        sub: 0,
+    };
+    write_entry(out, head, &standing_bytes(standing))
 }
 
 // An amount of an offer or a reference, or a price.
@@ -46,7 +57,12 @@ pub fn write_number(out: &mut [u8], kind: u8, resource: u8, sub: u8, value: i32)
     ensures back { NumberBack value }
     ensures reads { NumberReads value (body_of out.new) }
 {
-    write_entry(out, kind, resource, sub, &number_bytes(value))
+    let head = Head {
+        kind,
+        first: resource,
+        sub,
+    };
+    write_entry(out, head, &number_bytes(value))
 }
 
 pub fn write_quantity(out: &mut [u8], resource: u8, product: u8, tenths: u32) -> usize
@@ -56,7 +72,12 @@ pub fn write_quantity(out: &mut [u8], resource: u8, product: u8, tenths: u32) ->
     ensures back { QuantityBack tenths }
     ensures reads { QuantityReads tenths (body_of out.new) }
 {
-    write_entry(out, 5, resource, product, &word_bytes(tenths))
+    let head = Head {
+        kind: 5,
+        first: resource,
+        sub: product,
+    };
+    write_entry(out, head, &word_bytes(tenths))
 }
 
 pub fn write_remark(out: &mut [u8], resource: u8, remark: &Remark) -> usize
@@ -66,7 +87,12 @@ pub fn write_remark(out: &mut [u8], resource: u8, remark: &Remark) -> usize
     ensures back { 1 ≤ remark.now.count → remark_fault (remark_bytes remark.now) ≡ 0 }
     ensures reads { 1 ≤ remark.now.count → remark_fault (body_of out.new) ≡ 0 }
 {
-    write_entry(out, 7, resource, 0, &remark.bytes[0..remark.count])
+    let head = Head {
+        kind: 7,
+        first: resource,
+        sub: 0,
+    };
+    write_entry(out, head, &remark.bytes[0..remark.count])
 }
 
 fn write_steps(out: &mut [u8], row: Row) -> usize
@@ -90,6 +116,11 @@ pub fn write_curve(out: &mut [u8], kind: u8, resource: u8, parameter: u8, row: &
     ensures back { CurveBack parameter (row_steps row.now) }
     ensures reads { CurveReads parameter (row_steps row.now) (body_of out.new) }
 {
-    let at = write_head(out, kind, resource, parameter, 8 * row.count);
+    let head = Head {
+        kind,
+        first: resource,
+        sub: parameter,
+    };
+    let at = write_head(out, head, 8 * row.count);
     at + write_steps(&mut out[at..], *row)
 }

@@ -9,9 +9,9 @@ pub returns-in-2 : goal.returns-in-2
 unfolding holds
 returns-in-2 c =
     let two = c.in-2.is in
-    let none = only_standing c.args.kind c.args.resource c.args.sub two c.requires.slot in
+    let none = only_standing c.args.head.kind c.args.head.first c.args.head.sub two c.requires.slot in
     record {
-      bytes = c.standing_slot.ensures.bytes ∙ (λ i. entry_of (head (sym two i) c.args.resource (sym none i)) (holds c.args.one.now (sym two i) (sym none i)));
+      bytes = c.standing_slot.ensures.bytes ∙ (λ i. entry_of (head (sym two i) c.args.head.first (sym none i)) (holds c.args.one.now (sym two i) (sym none i)));
       sound = c.standing_slot.ensures.sound;
     }
 
@@ -34,9 +34,9 @@ returns-in-6 c = search rules
 pub returns-in_default : goal.returns-in_default
 unfolding holds
 returns-in_default c =
-    let seven : c.args.kind ≡ 7 = search rules in
-    let none = only_remark c.args.kind c.args.resource c.args.sub seven c.requires.slot in
+    let seven : c.args.head.kind ≡ 7 = search rules in
+    let none = only_remark c.args.head.kind c.args.head.first c.args.head.sub seven c.requires.slot in
     record {
-      bytes = c.remark_slot.ensures.bytes ∙ (λ i. entry_of (head (sym seven i) c.args.resource (sym none i)) (holds c.args.one.now (sym seven i) (sym none i)));
+      bytes = c.remark_slot.ensures.bytes ∙ (λ i. entry_of (head (sym seven i) c.args.head.first (sym none i)) (holds c.args.one.now (sym seven i) (sym none i)));
       sound = c.remark_slot.ensures.sound;
     }

@@ -13,14 +13,14 @@ returns-in-3 g c =
     record {
       bytes =
           c.offer_slot.ensures.bytes
-          ∙ (λ j. entry_of (head (sym three j) c.args.first c.args.sub) (mitigated_rows m t (head (sym three j) c.args.first c.args.sub)));
+          ∙ (λ j. entry_of (head (sym three j) c.args.head.first c.args.head.sub) (mitigated_rows m t (head (sym three j) c.args.head.first c.args.head.sub)));
       sound = c.offer_slot.ensures.sound;
     }
 
 pub returns-in_default : goal.returns-in_default
 returns-in_default g c =
-    let h = head c.args.kind c.args.first c.args.sub in
+    let h = c.args.head in
     record {
-      bytes = c.slot.ensures.bytes ∙ ap (entry_of h) (sym (cond-false _ _ _ (ne_eqb c.args.kind 3 (λ e. omega arith))));
+      bytes = c.slot.ensures.bytes ∙ ap (entry_of h) (sym (cond-false _ _ _ (ne_eqb c.args.head.kind 3 (λ e. omega arith))));
       sound = c.slot.ensures.sound;
     }
