@@ -1,4 +1,3 @@
 mod Fronts
-mod Spelling
 mod Lettering
 mod Lining

@@ -2,16 +2,15 @@
 ghost use Rattle.std.specs.Prelude.{◌≡◌, ◌≤◌, length, decimal as decimal_of};
 ghost use Rattle.writers.specs.Buffers.{onto};
 
+use itoa::Buffer;
+use writers::bytes::write_bytes;
+
 // How many digits.
 pub fn decimal_length(n: u64) -> usize
     ensures len { result ≡ length (decimal_of n) }
     ensures most { result ≤ 20 }
 {
-    if n < 10 {
-        1
-    } else {
-        decimal_length(n / 10) + 1
-    }
+    Buffer::new().format(n).len()
 }
 
 // How many digits were written.
@@ -20,11 +19,5 @@ pub fn write_decimal(out: &mut [u8], n: u64) -> usize
     ensures len { result ≡ length (decimal_of n) }
     ensures bytes { out.new ≡ onto (decimal_of n) out.old }
 {
-    let at = if n < 10 {
-        0
-    } else {
-        write_decimal(out, n / 10)
-    };
-    out[at] = b'0' + (n % 10) as u8;
-    at + 1
+    write_bytes(out, Buffer::new().format(n).as_bytes())
 }
