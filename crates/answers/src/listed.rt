@@ -9,13 +9,13 @@ use crate::answer::Answer;
 use crate::question::answer;
 use crate::shares::Shares;
 use charges::rules::Rules;
-use vocabulary::lines::Terms;
+use vocabulary::lines::Lines;
 use vocabulary::resource::Resource;
 
 // What is found of each resource in turn; none of one without a standing.
 pub fn listed<R: Rules>(
     rules: &R,
-    lines: &[Option<Terms>; 50],
+    lines: &Lines,
     table: &[Resource; 32],
 ) -> [Option<Answer>; 32]
     ensures value { (k : ℕ) → k < 32 → slice_index_or result k None ≡ listed_of (R.meanings rules.now) (lines_of lines.now) (owns_of table.now) k }

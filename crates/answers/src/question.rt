@@ -14,7 +14,7 @@ use charges::finding::Finding;
 use charges::rules::Rules;
 use verdicts::conduct::amount_conduct;
 use vocabulary::amount::Amount;
-use vocabulary::lines::Terms;
+use vocabulary::lines::Lines;
 use vocabulary::product::Product;
 use vocabulary::resource::Resource;
 use vocabulary::verdict::Verdict;
@@ -22,7 +22,7 @@ use vocabulary::verdict::Verdict;
 // What is found of a product of resource i.
 fn finding<R: Rules>(
     rules: &R,
-    lines: &[Option<Terms>; 50],
+    lines: &Lines,
     table: &[Resource; 32],
     shares: &Shares,
     product: Product,
@@ -40,7 +40,7 @@ fn finding<R: Rules>(
 // The conduct of each amount, which rise by number.
 fn amount_conducts<R: Rules>(
     rules: &R,
-    lines: &[Option<Terms>; 50],
+    lines: &Lines,
     resource: &Resource,
 ) -> [Verdict; 4]
     ensures { result ≡ of_amounts (amount_conduct_of (R.meanings rules.now).amounts (R.meanings rules.now).quantities (lines_of lines.now) (own_of resource.now)) }
@@ -98,7 +98,7 @@ fn assembled(found: [Finding; 4], amounts: [Verdict; 4]) -> Answer
 // What is found of resource i, from the shares of the table.
 pub fn answer<R: Rules>(
     rules: &R,
-    lines: &[Option<Terms>; 50],
+    lines: &Lines,
     table: &[Resource; 32],
     shares: &Shares,
     i: usize,
@@ -120,7 +120,7 @@ pub fn answer<R: Rules>(
 // What is found of resource i of a table.
 pub fn question<R: Rules>(
     rules: &R,
-    lines: &[Option<Terms>; 50],
+    lines: &Lines,
     table: &[Resource; 32],
     i: usize,
 ) -> Answer

@@ -8,7 +8,7 @@ use bounds::bound::Bound;
 use charges::group::shares;
 use charges::share::Share;
 use kinds::amounts::Amounts;
-use vocabulary::lines::Terms;
+use vocabulary::lines::Lines;
 use vocabulary::product::Product;
 use vocabulary::resource::Resource;
 
@@ -21,7 +21,7 @@ pub struct Shares {
 impl Shares {
     pub fn of<Q: Bound>(
         quantities: &Amounts<Q>,
-        lines: &[Option<Terms>; 50],
+        lines: &Lines,
         table: &[Resource; 32],
     ) -> Shares
         ensures { Shared (Q.Bound.meaning quantities.now.bound) (lines_of lines.now) (owns_of table.now) result }

@@ -11,7 +11,7 @@ use bounds::line::Line;
 use curves::curve::Curve;
 use kinds::curve_kind::Curves;
 use verdicts::quantity::offered;
-use vocabulary::lines::{Terms, line};
+use vocabulary::lines::{Lines, line};
 use vocabulary::product::Product;
 use vocabulary::resource::Resource;
 use vocabulary::run::Run;
@@ -66,7 +66,7 @@ fn widths<C: Bound>(
 // The charge on the steps of an offer that fail.
 pub fn width_charge<C: Bound>(
     curves: &Curves<C>,
-    lines: &[Option<Terms>; 50],
+    lines: &Lines,
     resource: &Resource,
     product: Product,
 ) -> u64

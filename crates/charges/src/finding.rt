@@ -14,7 +14,7 @@ use kinds::curve_kind::Curves;
 use verdicts::conduct::curve_conduct;
 use verdicts::impact::{impact, quantity_impact};
 use vocabulary::condition::Condition;
-use vocabulary::lines::Terms;
+use vocabulary::lines::Lines;
 use vocabulary::product::Product;
 use vocabulary::resource::Resource;
 use vocabulary::verdict::Verdict;
@@ -55,7 +55,7 @@ impl Verdicts {
 // What a product owes by its verdicts.
 fn charge<C: Bound>(
     curves: &Curves<C>,
-    lines: &[Option<Terms>; 50],
+    lines: &Lines,
     resource: &Resource,
     product: Product,
     verdicts: &Verdicts,
@@ -76,7 +76,7 @@ impl Finding {
     // What is found of a product of resource i, from the shares of the table.
     pub fn of<R: Rules>(
         rules: &R,
-        lines: &[Option<Terms>; 50],
+        lines: &Lines,
         table: &[Resource; 32],
         shares: &[Share; 32],
         product: Product,

@@ -8,7 +8,7 @@ use crate::share::{Group, Share};
 use bounds::bound::Bound;
 use kinds::amounts::Amounts;
 use verdicts::quantity::judged_quantity;
-use vocabulary::lines::{Terms, line};
+use vocabulary::lines::{Lines, line};
 use vocabulary::product::Product;
 use vocabulary::resource::Resource;
 use vocabulary::test::Test;
@@ -24,7 +24,7 @@ struct Sums {
 // The shares of the whole table: each resource is judged once.
 pub fn shares<Q: Bound>(
     quantities: &Amounts<Q>,
-    lines: &[Option<Terms>; 50],
+    lines: &Lines,
     table: &[Resource; 32],
     product: Product,
 ) -> [Share; 32]
@@ -61,7 +61,7 @@ fn added_up(shares: &[Share; 32], group: Group) -> Sums
 // The verdict on the members of a group.
 fn group_verdict<Q: Bound>(
     quantities: &Amounts<Q>,
-    lines: &[Option<Terms>; 50],
+    lines: &Lines,
     shares: &[Share; 32],
     group: Option<Group>,
 ) -> Verdict
@@ -79,7 +79,7 @@ fn group_verdict<Q: Bound>(
 // The entity quantity verdict of resource i, from the shares of the table.
 pub fn entity_quantity<Q: Bound>(
     quantities: &Amounts<Q>,
-    lines: &[Option<Terms>; 50],
+    lines: &Lines,
     table: &[Resource; 32],
     shares: &[Share; 32],
     product: Product,

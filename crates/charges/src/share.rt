@@ -7,7 +7,7 @@ use bounds::bound::Bound;
 use kinds::amounts::Amounts;
 use verdicts::quantity::{judged_offer, offered};
 use vocabulary::condition::Condition;
-use vocabulary::lines::Terms;
+use vocabulary::lines::Lines;
 use vocabulary::product::Product;
 use vocabulary::resource::Resource;
 use vocabulary::verdict::Verdict;
@@ -63,7 +63,7 @@ impl Group {
 impl Share {
     pub fn of<Q: Bound>(
         quantities: &Amounts<Q>,
-        lines: &[Option<Terms>; 50],
+        lines: &Lines,
         resource: &Resource,
         product: Product,
     ) -> Share

@@ -19,7 +19,7 @@ use files::hour::number_slot;
 use files::slots::Slots;
 use table::hour::Table;
 use verdicts::mitigation::{mitigated_amount, mitigated_curve};
-use vocabulary::lines::Terms;
+use vocabulary::lines::Lines;
 use vocabulary::parameter::Parameter;
 use vocabulary::resource::Resource;
 
@@ -49,7 +49,7 @@ fn curve_slot(resource: u8, parameter: u8, curve: Option<Curve>) -> Option<Fille
 // A parameter of a resource's offer, as the rules leave it.
 fn offer_slot<R: Rules>(
     rules: &R,
-    lines: &[Option<Terms>; 50],
+    lines: &Lines,
     one: &Resource,
     resource: u8,
     sub: u8,

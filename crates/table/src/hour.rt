@@ -1,9 +1,9 @@
 // The lines and the resources of an hour.
-use vocabulary::lines::Terms;
+use vocabulary::lines::Lines;
 use vocabulary::resource::Resource;
 
 #[derive(Clone, Copy)]
 pub struct Table {
-    pub lines: [Option<Terms>; 50],
+    pub lines: Lines,
     pub resources: [Resource; 32],
 }

@@ -8,7 +8,7 @@ use kinds::amounts::Amounts;
 use kinds::curve_kind::Curves;
 use kinds::judged::judged;
 use vocabulary::amount::Amount;
-use vocabulary::lines::{Terms, line};
+use vocabulary::lines::{Lines, line};
 use vocabulary::product::Product;
 use vocabulary::resource::Resource;
 use vocabulary::verdict::Verdict;
@@ -16,7 +16,7 @@ use vocabulary::verdict::Verdict;
 // The conduct of a product's offer curve.
 pub fn curve_conduct<C: Bound>(
     curves: &Curves<C>,
-    lines: &[Option<Terms>; 50],
+    lines: &Lines,
     resource: &Resource,
     product: Product,
 ) -> Verdict
@@ -35,7 +35,7 @@ pub fn curve_conduct<C: Bound>(
 pub fn amount_conduct<A: Bound, Q: Bound>(
     amounts: &Amounts<A>,
     quantities: &Amounts<Q>,
-    lines: &[Option<Terms>; 50],
+    lines: &Lines,
     resource: &Resource,
     amount: Amount,
 ) -> Verdict

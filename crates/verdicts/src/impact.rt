@@ -7,7 +7,7 @@ use bounds::bound::Bound;
 use kinds::amounts::Amounts;
 use kinds::judged::judged;
 use vocabulary::condition::Condition;
-use vocabulary::lines::{Terms, line};
+use vocabulary::lines::{Lines, line};
 use vocabulary::product::Product;
 use vocabulary::resource::Resource;
 use vocabulary::run::Run;
@@ -16,7 +16,7 @@ use vocabulary::verdict::Verdict;
 // The as-offered price against the price at reference levels.
 pub fn impact<I: Bound>(
     impact: &Amounts<I>,
-    lines: &[Option<Terms>; 50],
+    lines: &Lines,
     resource: &Resource,
     product: Product,
 ) -> Verdict
@@ -34,7 +34,7 @@ pub fn impact<I: Bound>(
 // The as-offered price against the price at reference quantities; not tested in an intertie zone.
 pub fn quantity_impact<I: Bound>(
     impact: &Amounts<I>,
-    lines: &[Option<Terms>; 50],
+    lines: &Lines,
     resource: &Resource,
     product: Product,
 ) -> Verdict

@@ -14,14 +14,14 @@ use kinds::curve_kind::Curves;
 use kinds::mitigated::mitigated;
 use vocabulary::amount::Amount;
 use vocabulary::condition::Condition;
-use vocabulary::lines::{Terms, line};
+use vocabulary::lines::{Lines, line};
 use vocabulary::product::Product;
 use vocabulary::resource::Resource;
 
 // Whether a product's parameters may be replaced: its impact fails, and not in an intertie zone.
 pub fn replaceable<I: Bound>(
     impact_bound: &Amounts<I>,
-    lines: &[Option<Terms>; 50],
+    lines: &Lines,
     resource: &Resource,
     product: Product,
 ) -> bool
@@ -34,7 +34,7 @@ pub fn replaceable<I: Bound>(
 pub fn mitigated_curve<C: Bound, I: Bound>(
     curves: &Curves<C>,
     impact: &Amounts<I>,
-    lines: &[Option<Terms>; 50],
+    lines: &Lines,
     resource: &Resource,
     product: Product,
 ) -> Option<Curve>
@@ -53,7 +53,7 @@ pub fn mitigated_amount<A: Bound, I: Bound, Q: Bound>(
     amounts: &Amounts<A>,
     impact: &Amounts<I>,
     quantities: &Amounts<Q>,
-    lines: &[Option<Terms>; 50],
+    lines: &Lines,
     resource: &Resource,
     amount: Amount,
 ) -> Option<i32>

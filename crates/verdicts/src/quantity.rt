@@ -13,7 +13,7 @@ use curves::curve::made::end_in;
 use kinds::amounts::Amounts;
 use kinds::judged::judged;
 use vocabulary::condition::Condition;
-use vocabulary::lines::{Terms, line};
+use vocabulary::lines::{Lines, line};
 use vocabulary::product::Product;
 use vocabulary::resource::Resource;
 use vocabulary::test::Test;
@@ -46,7 +46,7 @@ pub fn judged_quantity<Q: Bound>(
 // The verdict on a quantity that a resource offers; not tested in an intertie zone.
 pub fn judged_offer<Q: Bound>(
     quantities: &Amounts<Q>,
-    lines: &[Option<Terms>; 50],
+    lines: &Lines,
     resource: &Resource,
     product: Product,
     value: u32,
@@ -62,7 +62,7 @@ pub fn judged_offer<Q: Bound>(
 // The resource quantity verdict; not tested in an intertie zone.
 pub fn resource_quantity<Q: Bound>(
     quantities: &Amounts<Q>,
-    lines: &[Option<Terms>; 50],
+    lines: &Lines,
     resource: &Resource,
     product: Product,
 ) -> Verdict

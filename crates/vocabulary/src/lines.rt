@@ -14,8 +14,11 @@ pub struct Terms {
     pub floor: i32,
 }
 
+// The lines of an hour: ten tests under each of five conditions.
+pub type Lines = [Option<Terms>; 50];
+
 // The line of a test under the condition in force.
-pub fn line(lines: &[Option<Terms>; 50], condition: Option<Condition>, test: Test) -> Option<Line>
+pub fn line(lines: &Lines, condition: Option<Condition>, test: Test) -> Option<Line>
     ensures { result ≡ line_under (lines_of lines.now) condition test }
 {
     let terms = lines[10 * condition?.number() + test.number()]?;

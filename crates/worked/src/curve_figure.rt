@@ -15,7 +15,7 @@ use kinds::curve_kind::Curves;
 use verdicts::mitigation::mitigated_curve;
 use verdicts::places::standard;
 use vocabulary::condition::Condition;
-use vocabulary::lines::{Terms, line};
+use vocabulary::lines::{Lines, Terms, line};
 use vocabulary::product::Product;
 use vocabulary::resource::Resource;
 use vocabulary::test::Test;
@@ -32,7 +32,7 @@ pub struct CurveFigure {
 }
 
 // Energy curves at 300 percent and $100, energy impact at 100 percent and $50.
-fn lines() -> [Option<Terms>; 50]
+fn lines() -> Lines
     ensures { result ≡ lines_of }
 {
     let mut lines = [None; 50];

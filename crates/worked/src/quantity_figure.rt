@@ -11,7 +11,7 @@ use charges::group::shares;
 use curves::row::Row;
 use verdicts::places::standard;
 use vocabulary::condition::Condition;
-use vocabulary::lines::Terms;
+use vocabulary::lines::{Lines, Terms};
 use vocabulary::product::Product;
 use vocabulary::resource::Resource;
 use vocabulary::verdict::Verdict;
@@ -43,7 +43,7 @@ pub struct QuantityFigure {
 }
 
 impl QuantityFigure {
-    fn lines(&self) -> [Option<Terms>; 50]
+    fn lines(&self) -> Lines
         ensures { result ≡ lines_of self.now }
     {
         let mut lines = [None; 50];
