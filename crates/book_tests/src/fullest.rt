@@ -10,6 +10,7 @@ mod tests {
     use bounds::shortfall::Shortfall;
     use curves::row::Row;
     use curves::step::Step;
+    use entries::head::Head;
     use std::process::Abort;
     use verdicts::places::{Standard, standard};
     use vocabulary::lines::Terms;
@@ -48,16 +49,25 @@ mod tests {
 
     fn post_parameters(rt: &impl Abort, book: &mut Market, kind: u8, resource: u8) {
         let mut energy = [0; 165];
-        let _ = write_curve(&mut energy, kind, resource, 0, &row(20));
+        let first = resource;
+        let _ = write_curve(
+            &mut energy,
+            Head {
+                kind,
+                first,
+                sub: 0,
+            },
+            &row(20),
+        );
         assert!(rt; book.post(&energy).is_ok());
-        for parameter in 1..4u8 {
+        for sub in 1..4u8 {
             let mut reserve = [0; 45];
-            let _ = write_curve(&mut reserve, kind, resource, parameter, &row(5));
+            let _ = write_curve(&mut reserve, Head { kind, first, sub }, &row(5));
             assert!(rt; book.post(&reserve).is_ok());
         }
-        for parameter in 4..8u8 {
+        for sub in 4..8u8 {
             let mut amount = [0; 9];
-            let _ = write_number(&mut amount, kind, resource, parameter, 24);
+            let _ = write_number(&mut amount, Head { kind, first, sub }, 24);
             assert!(rt; book.post(&amount).is_ok());
         }
     }
@@ -70,7 +80,12 @@ mod tests {
         }
         for run in 0..12u8 {
             let mut entry = [0; 9];
-            let _ = write_number(&mut entry, 6, resource, run, 200_000);
+            let head = Head {
+                kind: 6,
+                first: resource,
+                sub: run,
+            };
+            let _ = write_number(&mut entry, head, 200_000);
             assert!(rt; book.post(&entry).is_ok());
         }
     }

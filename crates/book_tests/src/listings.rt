@@ -11,6 +11,7 @@ mod tests {
     use bounds::shortfall::Shortfall;
     use curves::row::Row;
     use curves::step::Step;
+    use entries::head::Head;
     use histories::call::Call;
     use histories::compare::{Comparison, compare};
     use histories::drawn::same_bytes;
@@ -60,7 +61,12 @@ mod tests {
     // An energy price of a run.
     fn price(resource: u8, run: u8, cents: i32) -> [u8; 9] {
         let mut entry = [0; 9];
-        let _ = write_number(&mut entry, 6, resource, run, cents);
+        let head = Head {
+            kind: 6,
+            first: resource,
+            sub: run,
+        };
+        let _ = write_number(&mut entry, head, cents);
         entry
     }
 
@@ -79,11 +85,21 @@ mod tests {
         Step { price, end }
     }
 
+    // The head of a resource's energy curve, in its offer or its reference.
+    fn energy_head(kind: u8, resource: u8) -> Head {
+        Head {
+            kind,
+            first: resource,
+            sub: 0,
+        }
+    }
+
     // One step of $20 up to a quantity.
     fn offer(resource: u8, end: u32) -> [u8; 13] {
         let mut entry = [0; 13];
         let one = step(2_000, end);
-        let _ = write_curve(&mut entry, 3, resource, 0, &row(one, one, one, one, 1));
+        let head = energy_head(3, resource);
+        let _ = write_curve(&mut entry, head, &row(one, one, one, one, 1));
         entry
     }
 
@@ -91,7 +107,7 @@ mod tests {
     fn three_steps(kind: u8, resource: u8, first: Step, second: Step, third: Step) -> [u8; 29] {
         let mut entry = [0; 29];
         let steps = row(first, second, third, third, 3);
-        let _ = write_curve(&mut entry, kind, resource, 0, &steps);
+        let _ = write_curve(&mut entry, energy_head(kind, resource), &steps);
         entry
     }
 

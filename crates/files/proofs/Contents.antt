@@ -9,6 +9,7 @@ use Rattle.bodies.specs.Bodies.{remark_bytes, remark_fault}
 use Rattle.bodies.specs.Curves.{curve_bytes}
 use Rattle.entries.specs.Entries.{head}
 use Rattle.entries.specs.Files.{head_fault}
+use Rattle.entries.specs.declared.head.Head.{Head}
 use Rattle.entries.specs.Table.{kinds}
 use Rattle.writers.specs.Buffers.{onto}
 use Rattle.bodies.proofs.Backs.{length_curve}
@@ -47,12 +48,12 @@ pub slot_written : (slot : Option Filled) (filled : Filled) → slot ≡ Some fi
 slot_written slot filled is old out e = e ∙ ap (λ o. onto (slot_bytes o) old) (sym is)
 
 -- a slot with a curve
-module _ (slot : Option Filled) (kind resource parameter : ℕ) (row : Row) (is : slot ≡ Some (Curve kind resource parameter row)) where
+module _ (slot : Option Filled) (h : Head) (row : Row) (is : slot ≡ Some (Curve h row)) where
   pub curve_sound : Sound slot → row.count ≤ 20
   curve_sound s = subst Sound is s
 
   pub curve_length : row.count ≤ length row.steps → (n : ℕ) → n ≡ 5 + 8 * row.count → n ≡ length (slot_bytes slot)
-  curve_length h n e =
-      let l = length_steps row h in
+  curve_length few n e =
+      let l = length_steps row few in
       let all : length (slot_bytes slot) ≡ 5 + length (curve_bytes (row_steps row)) = ap (λ o. length (slot_bytes o)) is ∙ omega arith in
       omega arith

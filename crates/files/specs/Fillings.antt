@@ -12,8 +12,8 @@ use Rattle.files.specs.declared.filled.Filled.TheVariants.{Line, Standing, Curve
 abbrev pub filled_bytes : Filled → List ℕ
 filled_bytes (Line condition test terms) = entry_bytes (head 1 condition test) (terms_bytes terms)
 filled_bytes (Standing resource standing) = entry_bytes (head 2 resource 0) (standing_bytes standing)
-filled_bytes (Curve kind resource parameter row) = entry_bytes (head kind resource parameter) (curve_bytes (row_steps row))
-filled_bytes (Number kind resource sub value) = entry_bytes (head kind resource sub) (number_bytes value)
+filled_bytes (Curve h row) = entry_bytes h (curve_bytes (row_steps row))
+filled_bytes (Number h value) = entry_bytes h (number_bytes value)
 filled_bytes (Quantity resource product tenths) = entry_bytes (head 5 resource product) (word_bytes tenths)
 filled_bytes (Remark resource remark) = entry_bytes (head 7 resource 0) (remark_bytes remark)
 
@@ -27,7 +27,7 @@ abbrev pub Sound : Option Filled → Type 0
 Sound None = Unit {0}
 Sound (Some (Line condition test terms)) = Unit {0}
 Sound (Some (Standing resource standing)) = Unit {0}
-Sound (Some (Curve kind resource parameter row)) = row.count ≤ 20
-Sound (Some (Number kind resource sub value)) = Unit {0}
+Sound (Some (Curve h row)) = row.count ≤ 20
+Sound (Some (Number h value)) = Unit {0}
 Sound (Some (Quantity resource product tenths)) = Unit {0}
 Sound (Some (Remark resource remark)) = remark.count ≤ 120

@@ -65,18 +65,8 @@ pub fn write_slot(slot: Option<Filled>, out: &mut [u8]) -> usize
             terms,
         } => write_line(out, condition, test, &terms),
         Filled::Standing { resource, standing } => write_standing(out, resource, &standing),
-        Filled::Curve {
-            kind,
-            resource,
-            parameter,
-            row,
-        } => write_curve(out, kind, resource, parameter, &row),
-        Filled::Number {
-            kind,
-            resource,
-            sub,
-            value,
-        } => write_number(out, kind, resource, sub, value),
+        Filled::Curve { head, row } => write_curve(out, head, &row),
+        Filled::Number { head, value } => write_number(out, head, value),
         Filled::Quantity {
             resource,
             product,

@@ -1,5 +1,6 @@
 // What is written of a full slot.
 use curves::row::Row;
+use entries::head::Head;
 use vocabulary::lines::Terms;
 use vocabulary::resource::Remark;
 use vocabulary::standing::Standing;
@@ -17,15 +18,11 @@ pub enum Filled {
         standing: Standing,
     },
     Curve {
-        kind: u8,
-        resource: u8,
-        parameter: u8,
+        head: Head,
         row: Row,
     },
     Number {
-        kind: u8,
-        resource: u8,
-        sub: u8,
+        head: Head,
         value: i32,
     },
     Quantity {

@@ -28,70 +28,45 @@ fn line_slot(condition: u8, test: u8, terms: Option<Terms>) -> Option<Filled>
     ensures bytes { slot_bytes result ≡ entry_of (head 1 condition test) (option_map terms_bytes terms) }
     ensures sound { Sound result }
 {
-    match terms {
-        Some(terms) => Some(Filled::Line {
-            condition,
-            test,
-            terms,
-        }),
-        None => None,
-    }
+    terms.map(|terms| Filled::Line {
+        condition,
+        test,
+        terms,
+    })
 }
 
 fn standing_slot(resource: u8, standing: Option<Standing>) -> Option<Filled>
     ensures bytes { slot_bytes result ≡ entry_of (head 2 resource 0) (option_map standing_bytes standing) }
     ensures sound { Sound result }
 {
-    match standing {
-        Some(standing) => Some(Filled::Standing { resource, standing }),
-        None => None,
-    }
+    standing.map(|standing| Filled::Standing { resource, standing })
 }
 
 // An amount of an offer or a reference, or a price.
-pub fn number_slot(kind: u8, resource: u8, sub: u8, value: Option<i32>) -> Option<Filled>
-    ensures bytes { slot_bytes result ≡ entry_of (head kind resource sub) (option_map number_bytes value) }
+pub fn number_slot(head: Head, value: Option<i32>) -> Option<Filled>
+    ensures bytes { slot_bytes result ≡ entry_of head (option_map number_bytes value) }
     ensures sound { Sound result }
 {
-    match value {
-        Some(value) => Some(Filled::Number {
-            kind,
-            resource,
-            sub,
-            value,
-        }),
-        None => None,
-    }
+    value.map(|value| Filled::Number { head, value })
 }
 
 fn quantity_slot(resource: u8, product: u8, tenths: Option<u32>) -> Option<Filled>
     ensures bytes { slot_bytes result ≡ entry_of (head 5 resource product) (option_map word_bytes tenths) }
     ensures sound { Sound result }
 {
-    match tenths {
-        Some(tenths) => Some(Filled::Quantity {
-            resource,
-            product,
-            tenths,
-        }),
-        None => None,
-    }
+    tenths.map(|tenths| Filled::Quantity {
+        resource,
+        product,
+        tenths,
+    })
 }
 
 // A row that holds no curve is an empty slot.
-fn curve_slot(kind: u8, resource: u8, parameter: u8, row: Row) -> Option<Filled>
-    ensures bytes { slot_bytes result ≡ entry_of (head kind resource parameter) (option_map curve_bytes (curve_in (most_of parameter) row)) }
+fn curve_slot(head: Head, row: Row) -> Option<Filled>
+    ensures bytes { slot_bytes result ≡ entry_of head (option_map curve_bytes (curve_in (most_of head.sub) row)) }
     ensures sound { Sound result }
 {
-    match Curve::of_row(row, most_steps(parameter)) {
-        Some(_) => Some(Filled::Curve {
-            kind,
-            resource,
-            parameter,
-            row,
-        }),
-        None => None,
-    }
+    Curve::of_row(row, most_steps(head.sub)).map(|_| Filled::Curve { head, row })
 }
 
 // The same words, counted no further than there are bytes.
@@ -123,17 +98,16 @@ fn remark_slot(resource: u8, remark: Remark) -> Option<Filled>
 }
 
 // A parameter of an offer, or of a reference.
-fn parameter_slot(kind: u8, resource: u8, parameter: u8, values: &Values) -> Option<Filled>
-    requires { parameter < 8 }
-    ensures bytes { slot_bytes result ≡ entry_of (head kind resource parameter) (values_hold values.now parameter) }
+fn parameter_slot(head: Head, values: &Values) -> Option<Filled>
+    requires { head.sub < 8 }
+    ensures bytes { slot_bytes result ≡ entry_of head (values_hold values.now head.sub) }
     ensures sound { Sound result }
 {
+    let parameter = head.sub as usize;
     if parameter < 4 {
-        let row = values.curves[parameter as usize];
-        curve_slot(kind, resource, parameter, row)
+        curve_slot(head, values.curves[parameter])
     } else {
-        let value = values.amounts[parameter as usize - 4];
-        number_slot(kind, resource, parameter, value)
+        number_slot(head, values.amounts[parameter - 4])
     }
 }
 
@@ -147,10 +121,10 @@ fn record_slot(one: &Resource, head: Head) -> Option<Filled>
     let Head { kind, first, sub } = head;
     match kind {
         2 => standing_slot(first, one.standing),
-        3 => parameter_slot(3, first, sub, &one.offer),
-        4 => parameter_slot(4, first, sub, &one.reference),
+        3 => parameter_slot(head, &one.offer),
+        4 => parameter_slot(head, &one.reference),
         5 => quantity_slot(first, sub, one.quantities[sub as usize]),
-        6 => number_slot(6, first, sub, one.prices[sub as usize]),
+        6 => number_slot(head, one.prices[sub as usize]),
         _ => remark_slot(first, one.remark),
     }
 }

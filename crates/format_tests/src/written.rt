@@ -4,6 +4,7 @@ mod tests {
     use crate::asked::posted_fault;
     use curves::row::Row;
     use curves::step::Step;
+    use entries::head::Head;
     use vocabulary::lines::Terms;
     use vocabulary::resource::Remark;
     use vocabulary::standing::Standing;
@@ -48,7 +49,12 @@ mod tests {
     #[test]
     fn number(rt: HostRuntime) {
         let mut out = [9; 10];
-        let n = write_number(&mut out, 6, 30, 11, -2);
+        let head = Head {
+            kind: 6,
+            first: 30,
+            sub: 11,
+        };
+        let n = write_number(&mut out, head, -2);
         assert_eq!(rt; n, 9);
         assert!(rt; out == [6, 30, 11, 0, 4, 255, 255, 255, 254, 9]);
     }
@@ -68,7 +74,12 @@ mod tests {
         steps[1] = Step { price: 7, end: 258 };
         let row = Row { steps, count: 2 };
         let mut out = [9; 22];
-        let n = write_curve(&mut out, 4, 3, 0, &row);
+        let head = Head {
+            kind: 4,
+            first: 3,
+            sub: 0,
+        };
+        let n = write_curve(&mut out, head, &row);
         assert_eq!(rt; n, 21);
         assert!(rt;
             out == [

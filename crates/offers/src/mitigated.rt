@@ -5,7 +5,6 @@ ghost use Rattle.curves.specs.Curves.{steps_of};
 ghost use Rattle.vocabulary.specs.Orders.{parameter_at};
 ghost use Rattle.vocabulary.specs.Readings.{lines_of, own_of};
 ghost use Rattle.bodies.specs.Curves.{curve_bytes};
-ghost use Rattle.entries.specs.Entries.{head};
 ghost use Rattle.ledger.specs.Mitigation.{mitigated_bytes};
 ghost use Rattle.ledger.specs.Slots.{entry_of};
 ghost use Rattle.files.specs.Fillings.{slot_bytes, Sound};
@@ -31,19 +30,14 @@ pub struct Mitigated<'a, R> {
 }
 
 // A curve of an offer.
-fn curve_slot(resource: u8, parameter: u8, curve: Option<Curve>) -> Option<Filled>
-    ensures bytes { slot_bytes result ≡ entry_of (head 3 resource parameter) (option_map curve_bytes (option_map steps_of curve)) }
+fn curve_slot(head: Head, curve: Option<Curve>) -> Option<Filled>
+    ensures bytes { slot_bytes result ≡ entry_of head (option_map curve_bytes (option_map steps_of curve)) }
     ensures sound { Sound result }
 {
-    match curve {
-        Some(curve) => Some(Filled::Curve {
-            kind: 3,
-            resource,
-            parameter,
-            row: curve.row(),
-        }),
-        None => None,
-    }
+    curve.map(|curve| Filled::Curve {
+        head,
+        row: curve.row(),
+    })
 }
 
 // A parameter of a resource's offer, as the rules leave it.
@@ -51,24 +45,20 @@ fn offer_slot<R: Rules>(
     rules: &R,
     lines: &Lines,
     one: &Resource,
-    resource: u8,
-    sub: u8,
+    head: Head,
 ) -> Option<Filled>
-    requires { sub < 8 }
-    ensures bytes { slot_bytes result ≡ entry_of (head 3 resource sub) (mitigated_bytes (R.meanings rules.now) (lines_of lines.now) (own_of one.now) (parameter_at sub)) }
+    requires { head.sub < 8 }
+    ensures bytes { slot_bytes result ≡ entry_of head (mitigated_bytes (R.meanings rules.now) (lines_of lines.now) (own_of one.now) (parameter_at head.sub)) }
     ensures sound { Sound result }
 {
     let places = rules.places();
-    match Parameter::at(sub) {
+    match Parameter::at(head.sub) {
         Parameter::Curve(product) => curve_slot(
-            resource,
-            sub,
+            head,
             mitigated_curve(&places.curves, &places.impact, lines, one, product),
         ),
         Parameter::Amount(amount) => number_slot(
-            3,
-            resource,
-            sub,
+            head,
             mitigated_amount(
                 &places.amounts,
                 &places.impact,
@@ -90,8 +80,7 @@ impl<'a, R: Rules> Slots for Mitigated<'a, R> {
                 self.rules,
                 &self.table.lines,
                 &self.table.resources[head.first as usize],
-                head.first,
-                head.sub,
+                head,
             ),
             _ => self.table.slot(head),
         }

@@ -50,18 +50,13 @@ pub fn write_standing(out: &mut [u8], resource: u8, standing: &Standing) -> usiz
 }
 
 // An amount of an offer or a reference, or a price.
-pub fn write_number(out: &mut [u8], kind: u8, resource: u8, sub: u8, value: i32) -> usize
+pub fn write_number(out: &mut [u8], head: Head, value: i32) -> usize
     requires { 9 ≤ length out.old }
     ensures len { result ≡ 9 }
-    ensures bytes { out.new ≡ onto (entry_bytes (head kind resource sub) (bytes_of_number value)) out.old }
+    ensures bytes { out.new ≡ onto (entry_bytes head (bytes_of_number value)) out.old }
     ensures back { NumberBack value }
     ensures reads { NumberReads value (body_of out.new) }
 {
-    let head = Head {
-        kind,
-        first: resource,
-        sub,
-    };
     write_entry(out, head, &number_bytes(value))
 }
 
@@ -109,18 +104,13 @@ fn write_steps(out: &mut [u8], row: Row) -> usize
 }
 
 // A curve of an offer or a reference.
-pub fn write_curve(out: &mut [u8], kind: u8, resource: u8, parameter: u8, row: &Row) -> usize
+pub fn write_curve(out: &mut [u8], head: Head, row: &Row) -> usize
     requires { (row.now.count ≤ 20) × (5 + 8 * row.now.count ≤ length out.old) }
     ensures len { result ≡ 5 + 8 * row.now.count }
-    ensures bytes { out.new ≡ onto (entry_bytes (head kind resource parameter) (curve_bytes (row_steps row.now))) out.old }
-    ensures back { CurveBack parameter (row_steps row.now) }
-    ensures reads { CurveReads parameter (row_steps row.now) (body_of out.new) }
+    ensures bytes { out.new ≡ onto (entry_bytes head (curve_bytes (row_steps row.now))) out.old }
+    ensures back { CurveBack head.sub (row_steps row.now) }
+    ensures reads { CurveReads head.sub (row_steps row.now) (body_of out.new) }
 {
-    let head = Head {
-        kind,
-        first: resource,
-        sub: parameter,
-    };
     let at = write_head(out, head, 8 * row.count);
     at + write_steps(&mut out[at..], *row)
 }

@@ -1,7 +1,6 @@
 use Rattle.std.proofs.Common.{length, Some, sym, refl, ap, ◌∙◌, arith, w32, SFits, rules}
 use Rattle.std.proofs.lemmas.Int.{to_z-of_z}
 use Rattle.bodies.specs.Numbers.{word_bytes, number_bytes}
-use Rattle.entries.specs.Entries.{head}
 use Rattle.entries.specs.Files.{entry_bytes}
 use Rattle.writers.specs.Buffers.{onto}
 use Rattle.files.specs.Fillings.{slot_bytes}
@@ -15,8 +14,8 @@ write_line-requires c = search rules
 pub write_curve-requires : goal.write_curve-requires
 write_curve-requires c =
     let is = c.in-Some.is ∙ ap Some c.in-Curve.is in
-    let few = curve_sound c.args.slot _ _ _ c.in-Curve.row is c.requires.sound in
-    let long = curve_length c.args.slot _ _ _ c.in-Curve.row is (omega arith) _ refl in
+    let few = curve_sound c.args.slot _ c.in-Curve.row is c.requires.sound in
+    let long = curve_length c.args.slot _ c.in-Curve.row is (omega arith) _ refl in
     (few, omega arith)
 
 pub write_number-requires : goal.write_number-requires
@@ -42,9 +41,9 @@ returns-in-Standing c =
 pub returns-in-Curve : goal.returns-in-Curve
 returns-in-Curve c =
     let is = c.in-Some.is ∙ ap Some c.in-Curve.is in
-    let few = curve_sound c.args.slot _ _ _ c.in-Curve.row is c.requires.sound in
+    let few = curve_sound c.args.slot _ c.in-Curve.row is c.requires.sound in
     record {
-      len = curve_length c.args.slot _ _ _ c.in-Curve.row is (omega arith) _ c.write_curve.ensures.len;
+      len = curve_length c.args.slot _ c.in-Curve.row is (omega arith) _ c.write_curve.ensures.len;
       bytes = slot_written c.args.slot _ is _ _ c.write_curve.ensures.bytes;
     }
 
@@ -55,7 +54,7 @@ returns-in-Number c =
     let f : SFits w32 c.in-Number.value = search rules in
     record {
       len = c.write_number.ensures.len ∙ ap (λ o. length (slot_bytes o)) (sym is);
-      bytes = slot_written c.args.slot _ is _ _ (c.write_number.ensures.bytes ∙ ap (λ z. onto (entry_bytes (head c.in-Number.kind c.in-Number.resource c.in-Number.sub) (number_bytes z)) c.args.out.now) (to_z-of_z w32 c.in-Number.value f));
+      bytes = slot_written c.args.slot _ is _ _ (c.write_number.ensures.bytes ∙ ap (λ z. onto (entry_bytes c.in-Number.head (number_bytes z)) c.args.out.now) (to_z-of_z w32 c.in-Number.value f));
     }
 
 pub returns-in-Quantity : goal.returns-in-Quantity
