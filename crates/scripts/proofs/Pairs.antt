@@ -1,29 +1,37 @@
 -- Hex text two digits at a time.
-use Rattle.std.proofs.Common.{◌≡◌, ℕ, suc, ◌+◌, ◌-◌, ◌*◌, ◌/◌, ◌%◌, ◌<◌, ◌≤◌, true, ◌&&◌, List, [], ◌∷◌, ◌++◌, length, get_or, take, drop, sym, refl, ap, ◌∙◌, append_assoc, arith}
+use Rattle.std.proofs.Common.{◌≡◌, ℕ, zero, suc, ◌+◌, ◌-◌, ◌*◌, ◌/◌, ◌%◌, ◌<◌, ◌≤◌, true, false, ◌&&◌, List, [], ◌∷◌, ◌++◌, length, get_or, take, drop, map, sym, refl, ap, ◌∙◌, append_assoc, arith}
 use Rattle.std.proofs.lemmas.List.{take_rest, append-nil, at_drop_more, at_drop_all}
-use Rattle.scripts.specs.Digits.{is_hex_digit, hex_value, is_hex, hex_bytes, hex_digit, hex_of}
-use Rattle.std.proofs.lemmas.Bool.{and_from}
+use Rattle.scripts.specs.Digits.{is_hex_digit, both_digits, hex_value, is_hex, hex_bytes, hex_digit, hex_of}
+use Rattle.std.proofs.lemmas.Bool.{and_from, and_right}
+use Rattle.std.specs.List.{list_all}
+use Rattle.std.specs.Simd.{first_chunks}
 use Rattle.std.proofs.lemmas.Bool.Decides.{nat_tests}
 
--- what a pattern `[high, low, more @ ..]` takes apart
-pub pair_front : (text : List ℕ) → 2 ≤ length text → text ≡ get_or text 0 0 ∷ get_or text 1 0 ∷ take (length text - 2) (drop 2 text)
-pair_front [] h = absurd (omega arith)
-pair_front (a ∷ []) h = absurd (omega arith)
-pair_front (a ∷ b ∷ more) h = λ i. a ∷ b ∷ sym (take_rest (a ∷ b ∷ more) 2) i
+-- the byte that a chunk of two digits says
+abbrev pub pair_value : List ℕ → ℕ
+pair_value p = 16 * hex_value (get_or p 0 0) + hex_value (get_or p 1 0)
 
-module _ (text : List ℕ) (long : 2 ≤ length text) where
-  pub pair_is_hex : (is_hex_digit (get_or text 0 0) && is_hex_digit (get_or text 1 0)) ≡ true → is_hex (take (length text - 2) (drop 2 text)) ≡ is_hex text
-  pair_is_hex e = sym (ap is_hex (pair_front text long) ∙ ap (λ t. t && is_hex (take (length text - 2) (drop 2 text))) e)
+pub pairs_said : (n : ℕ) (text : List ℕ) → n ≡ length text / 2 → map pair_value (first_chunks 2 n text) ≡ hex_bytes text
+pairs_said zero [] e = refl
+pairs_said zero (a ∷ []) e = refl
+pairs_said zero (a ∷ b ∷ more) e = absurd (omega arith)
+pairs_said (suc n) [] e = absurd (omega arith)
+pairs_said (suc n) (a ∷ []) e = absurd (omega arith)
+pairs_said (suc n) (a ∷ b ∷ more) e = ap (λ l. (16 * hex_value a + hex_value b) ∷ l) (pairs_said n more (omega arith))
 
-  pub pair_byte : hex_bytes text ≡ (16 * hex_value (get_or text 0 0) + hex_value (get_or text 1 0)) ∷ hex_bytes (take (length text - 2) (drop 2 text))
-  pair_byte = ap hex_bytes (pair_front text long)
+pub pairs_are_hex : (n : ℕ) (text : List ℕ) → length text ≡ n * 2 → list_all both_digits (first_chunks 2 n text) ≡ is_hex text
+pairs_are_hex zero [] e = refl
+pairs_are_hex zero (a ∷ more) e = absurd (omega arith)
+pairs_are_hex (suc n) [] e = absurd (omega arith)
+pairs_are_hex (suc n) (a ∷ []) e = absurd (omega arith)
+pairs_are_hex (suc n) (a ∷ b ∷ more) e = ap (λ t. (is_hex_digit a && is_hex_digit b) && t) (pairs_are_hex n more (omega arith))
 
--- one byte more stands in `after`, and one pair less is left
-pub byte_pushed : (text done after : List ℕ) (x : ℕ) → 2 ≤ length text → x ≡ 16 * hex_value (get_or text 0 0) + hex_value (get_or text 1 0) → after ≡ done ++ x ∷ []
-    → after ++ hex_bytes (take (length text - 2) (drop 2 text)) ≡ done ++ hex_bytes text
-byte_pushed text done after x long is e =
-    let more = hex_bytes (take (length text - 2) (drop 2 text)) in
-    ap (λ l. l ++ more) e ∙ append_assoc done (x ∷ []) more ∙ ap (λ y. done ++ y ∷ more) is ∙ ap (λ l. done ++ l) (sym (pair_byte text long))
+pub odd_is_not : (n : ℕ) (text : List ℕ) → length text ≡ n * 2 + 1 → is_hex text ≡ false
+odd_is_not n [] e = absurd (omega arith)
+odd_is_not zero (a ∷ []) e = refl
+odd_is_not (suc n) (a ∷ []) e = refl
+odd_is_not zero (a ∷ b ∷ more) e = absurd (omega arith)
+odd_is_not (suc n) (a ∷ b ∷ more) e = and_right (is_hex_digit a && is_hex_digit b) _ (odd_is_not n more (omega arith))
 
 -- a digit that was written says its number again
 digit_again : (n : ℕ) → n < 16 → hex_value (hex_digit n) ≡ n

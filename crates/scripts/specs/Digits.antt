@@ -1,5 +1,5 @@
 -- Bytes written in hex and in decimal.
-use Rattle.std.specs.Prelude.{ℕ, ◌+◌, ◌-◌, ◌*◌, ◌/◌, ◌%◌, Bool, true, false, cond, ◌&&◌, ◌||◌, List, [], ◌∷◌, Some, None, Option, nat_le, nat_lt}
+use Rattle.std.specs.Prelude.{ℕ, ◌+◌, ◌-◌, ◌*◌, ◌/◌, ◌%◌, Bool, true, false, cond, ◌&&◌, ◌||◌, List, [], ◌∷◌, Some, None, Option, nat_le, nat_lt, slice_index_or}
 
 -- from the first to the last, both counted
 abbrev pub in_range : ℕ → ℕ → ℕ → Bool
@@ -17,6 +17,10 @@ is_upper b = in_range 65 70 b
 
 abbrev pub is_hex_digit : ℕ → Bool
 is_hex_digit b = is_decimal b || (is_lower b || is_upper b)
+
+-- a high digit and a low one
+abbrev pub both_digits : List ℕ → Bool
+both_digits pair = is_hex_digit (slice_index_or pair 0 0) && is_hex_digit (slice_index_or pair 1 0)
 
 -- what a hex digit counts; 0 for another byte
 abbrev pub hex_value : ℕ → ℕ

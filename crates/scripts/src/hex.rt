@@ -1,6 +1,7 @@
 // Bytes written in hex.
-ghost use Rattle.std.specs.Prelude.{◌≡◌, ◌+◌, ◌*◌, ◌<◌, true, ◌&&◌, [], ◌∷◌, ◌++◌, length, IfOk, string_bytes, OnOk};
-ghost use Rattle.scripts.specs.Digits.{is_hex_digit, is_hex, hex_value as value_of_hex, hex_bytes, hex_digit as digit_of_hex, hex_of};
+ghost use Rattle.std.specs.Prelude.{◌≡◌, ◌+◌, ◌*◌, ◌<◌, true, [], ◌∷◌, ◌++◌, length, IfOk, string_bytes, OnOk};
+ghost use Rattle.std.specs.List.{list_all};
+ghost use Rattle.scripts.specs.Digits.{is_hex_digit, both_digits, is_hex, hex_value as value_of_hex, hex_bytes, hex_digit as digit_of_hex, hex_of};
 
 use std::alloc::AllocError;
 
@@ -10,24 +11,25 @@ fn is_hex_digit(byte: u8) -> bool
     matches!(byte, b'0'..=b'9' | b'a'..=b'f' | b'A'..=b'F')
 }
 
-fn is_pair(high: u8, low: u8) -> bool
-    ensures { result ≡ (is_hex_digit high && is_hex_digit low) }
+fn is_pair(pair: &[u8; 2]) -> bool
+    ensures { result ≡ both_digits pair.now }
 {
+    let [high, low] = *pair;
     is_hex_digit(high) && is_hex_digit(low)
+}
+
+fn are_pairs(pairs: &[[u8; 2]]) -> bool
+    ensures { result ≡ list_all both_digits pairs.now }
+{
+    pairs.iter().all(is_pair)
 }
 
 // Whether a text is an even number of hex digits.
 pub(crate) fn is_hex(text: &[u8]) -> bool
     ensures { result ≡ is_hex text.now }
 {
-    let mut rest = text;
-    while let [high, low, more @ ..] = rest {
-        if !is_pair(*high, *low) {
-            return false;
-        }
-        rest = more;
-    }
-    rest.is_empty()
+    let (pairs, rest) = text.as_chunks::<2>();
+    rest.is_empty() && are_pairs(pairs)
 }
 
 // What a hex digit counts; 0 for another byte.
@@ -54,10 +56,9 @@ fn pair_byte(high: u8, low: u8) -> u8
 pub fn decode(hex: &[u8], out: &mut Vec<u8>) -> Result<(), AllocError>
     ensures { OnOk result (out.new.items ≡ out.old.items ++ hex_bytes hex.now) }
 {
-    let mut rest = hex;
-    while let [high, low, more @ ..] = rest {
+    let (pairs, _) = hex.as_chunks::<2>();
+    for [high, low] in pairs {
         out.push(pair_byte(*high, *low))?;
-        rest = more;
     }
     Ok(())
 }

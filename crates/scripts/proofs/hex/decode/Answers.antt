@@ -1,11 +1,9 @@
-use Rattle.std.proofs.Common.{◌≡◌, ◌≤◌, [], ◌∷◌, ◌++◌, length, vec_items, refl, ◌∙◌, rules}
-use Rattle.std.proofs.lemmas.Slice.{pushed}
-use Rattle.scripts.proofs.Pairs.{byte_pushed}
+use Rattle.std.proofs.Common.{◌/◌, ◌++◌, length, map, vec_items, refl, ap, ◌∙◌}
+use Rattle.std.proofs.lemmas.List.{take_all}
+use Rattle.scripts.proofs.Pairs.{pair_value, pairs_said}
 use Rattle.scripts.proofs.hex.decode.Goals as goal
 
-pub loop-rest-preserved : goal.loop-rest-preserved
-loop-rest-preserved c =
-    let long : 2 ≤ length c.loop-rest.rest.now = search rules in
-    let more : vec_items c.push.new.self ≡ vec_items c.loop-rest.out ++ c.pair_byte.result ∷ []
-    = pushed (c.pair_byte.result ∷ []) refl c.in_ok-push.was c.push.ensures.items in
-    byte_pushed c.loop-rest.rest.now _ _ _ long c.pair_byte.ensures more ∙ c.loop-rest.invariant
+pub returns : goal.returns
+returns c =
+    let said = ap (map pair_value) (take_all c.loop-high.high-index _ c.loop-high-test.false ∙ c.as_chunks.ensures.front) ∙ pairs_said (length c.args.hex.now / 2) c.args.hex.now refl in
+    c.loop-high.invariant ∙ ap (λ l. vec_items c.args.out.now ++ l) said
