@@ -10,11 +10,11 @@ use vocabulary::lines::Terms;
 fn in_range(test: u8, terms: &Terms) -> bool
     ensures { result ≡ in_terms_range test terms.now }
 {
-    match (test, terms.percent, terms.cap, terms.floor) {
-        (0 | 1, 0..=1_000, 0..=100_000_000, -10_000..=200_000) => true,
-        (2.., 0..=1_000, 0..=100_000_000, 0) => true,
-        _ => false,
-    }
+    matches!(
+        (test, terms.percent, terms.cap, terms.floor),
+        (0 | 1, 0..=1_000, 0..=100_000_000, -10_000..=200_000)
+            | (2.., 0..=1_000, 0..=100_000_000, 0)
+    )
 }
 
 pub fn read_line(test: u8, body: &[u8]) -> Result<Terms, Fault>

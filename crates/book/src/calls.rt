@@ -1,5 +1,6 @@
 // Calls on a book: each answers what the plain ledger's fault is, and leaves the ledger's next state.
-ghost use Rattle.std.specs.Prelude.{◌≡◌, ◌≤◌, length};
+ghost use Rattle.std.specs.Prelude.{◌≡◌, ◌≤◌, true, false, length, MatchResult};
+ghost use Rattle.bodies.specs.declared.fault.Fault.TheVariants.{Closed};
 ghost use Rattle.entries.specs.Entries.{head};
 ghost use Rattle.entries.specs.Files.{told};
 ghost use Rattle.entries.specs.Table.{kinds};
@@ -43,6 +44,16 @@ impl<R: Rules> Book<R> {
         }
     }
 
+    // Refuses whatever comes once the hour is closed.
+    fn check_open(&self) -> Result<(), Refusal>
+        ensures { MatchResult result (λ _. self.now.is_open ≡ true) (λ r. (r ≡ record { fault = Closed; place = 0 }) × (self.now.is_open ≡ false)) }
+    {
+        if !self.is_open {
+            return Err(Fault::Closed.into());
+        }
+        Ok(())
+    }
+
     // Ends entering.
     pub fn close(&mut self) -> Result<(), Refusal>
         ensures answer { told result ≡ fault_of kinds (ledger_of self.old.table self.old.is_open) closed }
@@ -50,9 +61,7 @@ impl<R: Rules> Book<R> {
         ensures bounds { self.new.rules ≡ self.old.rules }
         ensures ranged { AllRanged self.old.table → AllRanged self.new.table }
     {
-        if !self.is_open {
-            return Err(Fault::Closed.into());
-        }
+        self.check_open()?;
         self.is_open = false;
         Ok(())
     }
@@ -65,9 +74,7 @@ impl<R: Rules> Book<R> {
         ensures ranged { AllRanged self.old.table → AllRanged self.new.table }
     {
         let entry = read_posted(bytes)?;
-        if !self.is_open {
-            return Err(Fault::Closed.into());
-        }
+        self.check_open()?;
         self.table.take(entry);
         Ok(())
     }
@@ -80,9 +87,7 @@ impl<R: Rules> Book<R> {
         ensures ranged { AllRanged self.old.table → AllRanged self.new.table }
     {
         check_file(file)?;
-        if !self.is_open {
-            return Err(Fault::Closed.into());
-        }
+        self.check_open()?;
         fill(&mut self.table, file);
         Ok(())
     }
@@ -96,9 +101,7 @@ impl<R: Rules> Book<R> {
     {
         let head = Head { kind, first, sub };
         head.check()?;
-        if !self.is_open {
-            return Err(Fault::Closed.into());
-        }
+        self.check_open()?;
         if self.table.clear(head) {
             Ok(())
         } else {

@@ -22,9 +22,6 @@ use Rattle.files.specs.Fillings.{filled_bytes, slot_bytes, Sound}
 pub length_steps : (row : Row) → row.count ≤ length row.steps → 8 * row.count ≡ length (curve_bytes (row_steps row))
 length_steps row h = sym (length_curve (row_steps row) ∙ ap (λ n. 8 * n) (length-take-le row.count row.steps h))
 
-pub same_words : (m n : ℕ) (bytes : List ℕ) → length bytes ≤ m → length bytes ≤ n → take m bytes ≡ take n bytes
-same_words m n bytes h k = take_all m bytes h ∙ sym (take_all n bytes k)
-
 -- a remark that counts some of its bytes is held
 pub words_held : (m : Remark) → length m.bytes ≡ 120 → 1 ≤ m.count → remark_held m ≡ Some (remark_bytes m)
 words_held m long some =

@@ -74,11 +74,9 @@ fn counted(remark: Remark) -> Remark
     ensures words { remark_bytes result ≡ remark_bytes remark }
     ensures most { result.count ≤ 120 }
 {
-    if remark.count <= 120 {
-        remark
-    } else {
-        let bytes = remark.bytes;
-        Remark { bytes, count: 120 }
+    Remark {
+        count: remark.count.min(120),
+        ..remark
     }
 }
 

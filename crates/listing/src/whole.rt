@@ -16,10 +16,7 @@ fn length_if(answer: Option<Answer>) -> usize
     ensures len { (resource : ℕ) → result ≡ length (line_if resource answer) }
     ensures most { result ≤ 53 }
 {
-    match answer {
-        Some(answer) => line_length(&answer),
-        None => 0,
-    }
+    answer.map_or(0, |answer| line_length(&answer))
 }
 
 // Writes a resource's line, if it is listed, and says how many bytes it took.
