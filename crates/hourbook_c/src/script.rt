@@ -1,5 +1,5 @@
 // Scripts: calls one behind the other, each a number and then its arguments.
-ghost use Rattle.std.specs.Prelude.{◌≡◌, ◌<◌, ◌≤◌, length, IfOk, IfSome};
+ghost use Rattle.std.specs.Prelude.{◌≡◌, ◌-◌, ◌<◌, ◌≤◌, ◌++◌, length, drop, IfOk, IfSome};
 
 use bodies::fault::Fault;
 use book::book::Book;
@@ -9,7 +9,7 @@ use histories::replay::obey;
 
 // The bytes whose number stands in the first four, and what is behind them.
 fn split_part(bytes: &[u8]) -> Result<(&[u8], &[u8]), Fault>
-    ensures { IfOk result (λ p. length p.1.now ≤ length bytes.now) }
+    ensures { IfOk result (λ p. (4 ≤ length bytes.now) × (p.0.now ++ p.1.now ≡ drop 4 bytes.now)) }
 {
     let [a, b, c, d, rest @ ..] = bytes else {
         return Err(Fault::Short);
@@ -23,7 +23,8 @@ fn split_part(bytes: &[u8]) -> Result<(&[u8], &[u8]), Fault>
 
 // The call that a script begins with, and the script behind it; none where nothing is left.
 pub fn split_call(script: &[u8]) -> Result<Option<(Call<'_>, &[u8])>, Fault>
-    ensures { IfOk result (λ o. IfSome o (λ p. length p.1.now < length script.now)) }
+    ensures shorter { IfOk result (λ o. IfSome o (λ p. length p.1.now < length script.now)) }
+    ensures tail { IfOk result (λ o. IfSome o (λ p. p.1.now ≡ drop (length script.now - length p.1.now) script.now)) }
 {
     match script {
         [] => Ok(None),
