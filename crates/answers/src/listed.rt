@@ -13,11 +13,7 @@ use vocabulary::lines::Lines;
 use vocabulary::resource::Resource;
 
 // What is found of each resource in turn; none of one without a standing.
-pub fn listed<R: Rules>(
-    rules: &R,
-    lines: &Lines,
-    table: &[Resource; 32],
-) -> [Option<Answer>; 32]
+pub fn listed<R: Rules>(rules: &R, lines: &Lines, table: &[Resource; 32]) -> [Option<Answer>; 32]
     ensures value { (k : ℕ) → k < 32 → slice_index_or result k None ≡ listed_of (R.meanings rules.now) (lines_of lines.now) (owns_of table.now) k }
     ensures small { (k : ℕ) → k < 32 → IfSome (slice_index_or result k None) (λ a. sum a.charges < 2 ^ 64) }
 {

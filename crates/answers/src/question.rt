@@ -38,11 +38,7 @@ fn finding<R: Rules>(
 }
 
 // The conduct of each amount, which rise by number.
-fn amount_conducts<R: Rules>(
-    rules: &R,
-    lines: &Lines,
-    resource: &Resource,
-) -> [Verdict; 4]
+fn amount_conducts<R: Rules>(rules: &R, lines: &Lines, resource: &Resource) -> [Verdict; 4]
     ensures { result ≡ of_amounts (amount_conduct_of (R.meanings rules.now).amounts (R.meanings rules.now).quantities (lines_of lines.now) (own_of resource.now)) }
 {
     let places = rules.places();
@@ -118,12 +114,7 @@ pub fn answer<R: Rules>(
 }
 
 // What is found of resource i of a table.
-pub fn question<R: Rules>(
-    rules: &R,
-    lines: &Lines,
-    table: &[Resource; 32],
-    i: usize,
-) -> Answer
+pub fn question<R: Rules>(rules: &R, lines: &Lines, table: &[Resource; 32], i: usize) -> Answer
     requires { i < 32 }
     ensures { result ≡ answer_of (R.meanings rules.now) (lines_of lines.now) (owns_of table.now) i }
 {

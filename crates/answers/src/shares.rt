@@ -19,11 +19,7 @@ pub struct Shares {
 }
 
 impl Shares {
-    pub fn of<Q: Bound>(
-        quantities: &Amounts<Q>,
-        lines: &Lines,
-        table: &[Resource; 32],
-    ) -> Shares
+    pub fn of<Q: Bound>(quantities: &Amounts<Q>, lines: &Lines, table: &[Resource; 32]) -> Shares
         ensures { Shared (Q.Bound.meaning quantities.now.bound) (lines_of lines.now) (owns_of table.now) result }
     {
         Shares {

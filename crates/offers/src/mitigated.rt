@@ -41,12 +41,7 @@ fn curve_slot(head: Head, curve: Option<Curve>) -> Option<Filled>
 }
 
 // A parameter of a resource's offer, as the rules leave it.
-fn offer_slot<R: Rules>(
-    rules: &R,
-    lines: &Lines,
-    one: &Resource,
-    head: Head,
-) -> Option<Filled>
+fn offer_slot<R: Rules>(rules: &R, lines: &Lines, one: &Resource, head: Head) -> Option<Filled>
     requires { head.sub < 8 }
     ensures bytes { slot_bytes result ≡ entry_of head (mitigated_bytes (R.meanings rules.now) (lines_of lines.now) (own_of one.now) (parameter_at head.sub)) }
     ensures sound { Sound result }

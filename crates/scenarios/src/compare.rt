@@ -22,11 +22,7 @@ pub struct Expected<'a> {
     pub mitigated: &'a [u8],
 }
 
-fn is_as_expected<R: Rules>(
-    book: &Book<R>,
-    document: Document,
-    expected: &[u8],
-) -> bool
+fn is_as_expected<R: Rules>(book: &Book<R>, document: Document, expected: &[u8]) -> bool
     requires well { WellFormed kinds (slots_of book.now.table) }
     requires ranged { AllRanged book.now.table }
     ensures { Decides result (drawn_of document (R.meanings book.now.rules) (slots_of book.now.table) ≡ expected.now) }
@@ -34,10 +30,7 @@ fn is_as_expected<R: Rules>(
     file(book, document).part() == expected
 }
 
-fn first_difference<R: Rules>(
-    book: &Book<R>,
-    expected: &Expected,
-) -> Option<Document>
+fn first_difference<R: Rules>(book: &Book<R>, expected: &Expected) -> Option<Document>
     requires well { WellFormed kinds (slots_of book.now.table) }
     requires ranged { AllRanged book.now.table }
     ensures { FirstDifference (R.meanings book.now.rules) (slots_of book.now.table) expected.now result }
