@@ -1,3 +1,2 @@
-pub mod Fours
 pub mod Listing
 pub mod Unfound

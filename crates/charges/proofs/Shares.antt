@@ -1,5 +1,5 @@
 -- Shares, and the table that they were worked out from.
-use Rattle.std.proofs.Common.{◌≡◌, ℕ, ◌+◌, ◌<◌, ◌≤◌, ◌≢◌, List, length, get_or, set, IfSome, Some, None, Option, sym, ap, subst, arith, get_or-set_other, get_or-set_same, below_more}
+use Rattle.std.proofs.Common.{◌≡◌, ℕ, ◌+◌, ◌<◌, ◌≤◌, List, get_or, Option, sym, ap, arith}
 use mathlib.Core.Path.{fun_ext}
 use Rattle.std.proofs.lemmas.Bool.{cond_both}
 use Rattle.bounds.specs.Meanings.{Meaning}
@@ -44,15 +44,3 @@ module _ (quantities : Meaning) (lines : Lines) (owns : Owns) (product : Product
 pub record Made (quantities : Meaning) (lines : Lines) (owns : Owns) (product : Product) (k : ℕ) (s : Share) : Type 0 where
   pub value : s ≡ share quantities lines (owns k) product
   pub small : (s.offered ≤ 100000) × (s.reference ≤ 100000)
-
--- one more element written
-pub set_more : {A : Type 0} (P : ℕ → A → Type 0) (xs : List A) (d : A) (i : ℕ) (y : A) → i < length xs
-    → ((k : ℕ) → k < i → P k (get_or xs k d)) → P i y → (k : ℕ) → k < i + 1 → P k (get_or (set xs i y) k d)
-set_more P xs d i y h before here =
-    below_more (λ k. P k (get_or (set xs i y) k d)) i
-    (λ k l. let ne : k ≢ i = omega arith in subst (P k) (sym (get_or-set_other xs i k y d ne)) (before k l))
-    (subst (P i) (sym (get_or-set_same xs i y d h)) here)
-
-pub known_small : (o : Option ℕ) → IfSome o (λ q. q ≤ 100000) → known o ≤ 100000
-known_small None h = omega arith
-known_small (Some q) h = h

@@ -61,6 +61,7 @@ impl Group {
 }
 
 impl Share {
+    #[tactic(auto, unfolding(crate::specs::Groups::share))]
     pub fn of<Q: Bound>(
         quantities: &Amounts<Q>,
         lines: &Lines,

@@ -1,33 +1,21 @@
 -- What rows, remarks and records hold, as the entries of their slots.
 use Rattle.std.proofs.Common.{◌≡◌, ℕ, ◌+◌, ◌*◌, ◌≤◌, List, length, take, Some, Option, sym, ap, ◌∙◌, subst, arith}
-use Rattle.std.proofs.lemmas.List.{length-take-le, take_all, length-take}
-use Rattle.std.proofs.lemmas.Bool.{cond-true, and_from, le-leb, eq-eqb}
+use Rattle.std.proofs.lemmas.List.{length-take-le, take_all}
 use Rattle.curves.specs.declared.row.Row.{Row}
 use Rattle.curves.specs.Rows.{row_steps}
-use Rattle.vocabulary.specs.declared.resource.Remark.{Remark}
-use Rattle.bodies.specs.Bodies.{remark_bytes, remark_fault}
 use Rattle.bodies.specs.Curves.{curve_bytes}
 use Rattle.entries.specs.Entries.{head}
 use Rattle.entries.specs.Files.{head_fault}
 use Rattle.entries.specs.declared.head.Head.{Head}
 use Rattle.entries.specs.Table.{kinds}
-use Rattle.writers.specs.Buffers.{onto}
 use Rattle.bodies.proofs.Backs.{length_curve}
-use Rattle.table.specs.Holding.{remark_held}
 use Rattle.table.proofs.Tables.{exists}
 use Rattle.files.specs.declared.filled.Filled.{Filled}
 use Rattle.files.specs.declared.filled.Filled.TheVariants.{Curve}
-use Rattle.files.specs.Fillings.{filled_bytes, slot_bytes, Sound}
+use Rattle.files.specs.Fillings.{slot_bytes, Sound}
 
 pub length_steps : (row : Row) → row.count ≤ length row.steps → 8 * row.count ≡ length (curve_bytes (row_steps row))
 length_steps row h = sym (length_curve (row_steps row) ∙ ap (λ n. 8 * n) (length-take-le row.count row.steps h))
-
--- a remark that counts some of its bytes is held
-pub words_held : (m : Remark) → length m.bytes ≡ 120 → 1 ≤ m.count → remark_held m ≡ Some (remark_bytes m)
-words_held m long some =
-    let n = length-take m.count m.bytes in
-    let clean : remark_fault (remark_bytes m) ≡ 0 = cond-true _ 0 5 (and_from _ _ (le-leb 1 (length (remark_bytes m)) (omega arith)) (le-leb (length (remark_bytes m)) 120 (omega arith))) in
-    cond-true _ _ _ (eq-eqb (remark_fault (remark_bytes m)) 0 clean)
 
 -- standings and remarks have one sub
 pub only_standing : (kind f u : ℕ) → kind ≡ 2 → head_fault kinds (head kind f u) ≡ 0 → u ≡ 0
@@ -39,10 +27,6 @@ pub only_remark : (kind f u : ℕ) → kind ≡ 7 → head_fault kinds (head kin
 only_remark kind f u e z =
     let there = exists f u 32 1 (ap (λ k. head_fault kinds (head k f u)) (sym e) ∙ z) in
     omega arith
-
--- what is written of a full slot
-pub slot_written : (slot : Option Filled) (filled : Filled) → slot ≡ Some filled → (old out : List ℕ) → out ≡ onto (filled_bytes filled) old → out ≡ onto (slot_bytes slot) old
-slot_written slot filled is old out e = e ∙ ap (λ o. onto (slot_bytes o) old) (sym is)
 
 -- a slot with a curve
 module _ (slot : Option Filled) (h : Head) (row : Row) (is : slot ≡ Some (Curve h row)) where

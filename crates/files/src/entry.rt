@@ -30,6 +30,7 @@ fn words_length(remark: Remark) -> usize
 }
 
 // How many bytes the entry of a slot takes.
+#[tactic(auto, unfolding(bodies::specs::Numbers::word_bytes))]
 pub fn slot_length(slot: Option<Filled>) -> usize
     requires { Sound slot }
     ensures len { result ≡ length (slot_bytes slot) }
@@ -49,6 +50,7 @@ pub fn slot_length(slot: Option<Filled>) -> usize
 }
 
 // Writes the entry of a slot, if it is full, and says how many bytes it took.
+#[tactic(auto, unfolding(bodies::specs::Numbers::word_bytes))]
 pub fn write_slot(slot: Option<Filled>, out: &mut [u8]) -> usize
     requires sound { Sound slot }
     requires room { length (slot_bytes slot) ≤ length out.old }

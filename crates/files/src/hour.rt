@@ -96,6 +96,7 @@ fn remark_slot(resource: u8, remark: Remark) -> Option<Filled>
 }
 
 // A parameter of an offer, or of a reference.
+#[tactic(auto, unfolding(table::specs::Holding::values_hold))]
 fn parameter_slot(head: Head, values: &Values) -> Option<Filled>
     requires { head.sub < 8 }
     ensures bytes { slot_bytes result ≡ entry_of head (values_hold values.now head.sub) }
@@ -110,6 +111,7 @@ fn parameter_slot(head: Head, values: &Values) -> Option<Filled>
 }
 
 // A slot of a resource's record.
+#[tactic(auto, unfolding(table::specs::Holding::holds))]
 fn record_slot(one: &Resource, head: Head) -> Option<Filled>
     requires kind { 1 < head.kind }
     requires slot { head_fault kinds head ≡ 0 }

@@ -1,5 +1,5 @@
-use Rattle.std.proofs.Common.{◌≡◌, sym, subst, arith}
-use Rattle.charges.specs.Groups.{total, share_offered, share_reference}
+use Rattle.std.proofs.Common.{sym, arith}
+use Rattle.charges.specs.Groups.{share_offered, share_reference}
 use Rattle.charges.proofs.Totals.{total_none, total_more}
 use Rattle.charges.proofs.Shares.{offered_small, reference_small, sums_small}
 use Rattle.charges.proofs.group.added_up.Goals as goal
@@ -25,14 +25,8 @@ loop-share-preserved c = (
   total_more (share_reference c.args.shares.now c.args.group) c.loop-share.share-index _ _ c.loop-share.invariant.1 c.brought-reference.ensures,
 )
 
-pub returns : goal.returns
-returns c =
+pub returns-clause-small : goal.returns-clause-small
+returns-clause-small c =
     let xs = c.args.shares.now in
-    let all : c.loop-share.share-index ≡ 32 = omega arith in
-    let offered = subst (λ n. c.loop-share.offered ≡ total (share_offered xs c.args.group) n) all c.loop-share.invariant.0 in
-    let reference = subst (λ n. c.loop-share.reference ≡ total (share_reference xs c.args.group) n) all c.loop-share.invariant.1 in
-    record {
-      offered = offered;
-      reference = reference;
-      small = (sums_small _ 32 _ (omega arith) (offered_small xs c.requires c.args.group) offered, sums_small _ 32 _ (omega arith) (reference_small xs c.requires c.args.group) reference);
-    }
+    let g = c.args.group in
+    (sums_small _ _ _ (omega arith) (offered_small xs c.requires g) c.loop-share.invariant.0, sums_small _ _ _ (omega arith) (reference_small xs c.requires g) c.loop-share.invariant.1)

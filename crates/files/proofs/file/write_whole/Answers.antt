@@ -1,4 +1,4 @@
-use Rattle.std.proofs.Common.{ap, ◌∙◌, arith, length-drop, length-take, rules}
+use Rattle.std.proofs.Common.{ap, ◌∙◌, arith, length-drop, length-take}
 use Rattle.entries.specs.Files.{mark}
 use Rattle.writers.specs.Buffers.{onto}
 use Rattle.files.specs.Placing.{all_entries}
@@ -13,9 +13,6 @@ pub write_entries-requires : goal.write_entries-requires
 write_entries-requires g c =
     let whole = file_length (g.S.Slots.holding c.args.slots.now) in
     simp (length-take, length-drop) (omega arith)
-
-pub overflow_add-result : goal.overflow_add-result
-overflow_add-result g c = let whole = file_length (g.S.Slots.holding c.args.slots.now) in search rules
 
 pub returns : goal.returns
 returns g c =
