@@ -117,6 +117,14 @@ words_by text (Some p) test parts = more_words text test ∙ (λ i. sym parts.0 
 pub lines_by : (text line rest : List ℕ) → 0 < length text → line ≡ before 10 text → rest ≡ behind 10 text → lines_of text ≡ line ∷ lines_of rest
 lines_by text line rest some front back = more_lines text some ∙ (λ i. sym front i ∷ lines_of (sym back i))
 
+-- a text with no LF is one line, and nothing is behind it
+pub first_line : (text : List ℕ) (r : Option (Bor (List ℕ) × Bor (List ℕ))) (whole : Bor (List ℕ) × Bor (List ℕ)) → whole.0.now ≡ text → whole.1.now ≡ []
+    → MatchOption r (before 10 text ≡ text) (λ _. length (before 10 text) < length text)
+    → MatchOption r (behind 10 text ≡ []) (λ p. (p.0.now ≡ before 10 text) × (p.1.now ≡ behind 10 text))
+    → ((unwrap_or r whole).0.now ≡ before 10 text) × ((unwrap_or r whole).1.now ≡ behind 10 text)
+first_line text None whole all none test parts = (all ∙ sym test, none ∙ sym parts)
+first_line text (Some p) whole all none test parts = parts
+
 -- a text has at least one word, so that a line of four words and more is no command
 more_than_four : (a b c d text : List ℕ) → command_in (a ∷ b ∷ c ∷ d ∷ words_of text) ≡ None
 more_than_four a b c d [] = refl

@@ -32,10 +32,8 @@ impl Script {
     pub fn get(&self, index: usize) -> Option<Call<'_>>
         ensures { At (calls_in self.now) index result }
     {
-        if index >= self.len() {
-            return None;
-        }
-        Some(in_store(self.calls[index], self.bytes.as_slice()))
+        let call = self.calls.get(index)?;
+        Some(in_store(*call, self.bytes.as_slice()))
     }
 
     // All the calls, in order.

@@ -80,9 +80,7 @@ pub fn read_command(line: &[u8]) -> Option<Command<'_>>
     let Some((kind, rest)) = split_word(rest) else {
         return with_one(name, rest);
     };
-    let Some((first, sub)) = split_word(rest) else {
-        return None;
-    };
+    let (first, sub) = split_word(rest)?;
     match split_word(sub) {
         Some(_) => None,
         None => with_three(name, kind, first, sub),

@@ -1,24 +1,15 @@
 // Bytes written in decimal.
 ghost use Rattle.std.specs.Prelude.{◌≡◌};
-ghost use Rattle.scripts.specs.Digits.{is_decimal, three_digits as value_of_three, decimal_byte as value_of_decimal};
-
-fn is_decimal(byte: u8) -> bool
-    ensures { result ≡ is_decimal byte }
-{
-    matches!(byte, b'0'..=b'9')
-}
+ghost use Rattle.scripts.specs.Digits.{three_digits as value_of_three, decimal_byte as value_of_decimal};
 
 fn three_digits(a: u8, b: u8, c: u8) -> Option<u8>
     ensures { result ≡ value_of_three a b c }
 {
-    if !(is_decimal(a) && is_decimal(b) && is_decimal(c)) {
+    if !(a.is_ascii_digit() && b.is_ascii_digit() && c.is_ascii_digit()) {
         return None;
     }
     let number = 100 * (a - b'0') as u16 + 10 * (b - b'0') as u16 + (c - b'0') as u16;
-    if number > 255 {
-        return None;
-    }
-    Some(number as u8)
+    u8::try_from(number).ok()
 }
 
 // A number from 0 to 255 in one to three digits.

@@ -8,7 +8,7 @@ use std::alloc::AllocError;
 fn is_hex_digit(byte: u8) -> bool
     ensures { result ≡ is_hex_digit byte }
 {
-    matches!(byte, b'0'..=b'9' | b'a'..=b'f' | b'A'..=b'F')
+    byte.is_ascii_hexdigit()
 }
 
 fn is_pair(pair: &[u8; 2]) -> bool

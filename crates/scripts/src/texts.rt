@@ -41,8 +41,5 @@ pub fn split_line(text: &[u8]) -> Option<(&[u8], &[u8])>
     if text.is_empty() {
         return None;
     }
-    match split_at_first(text, b'\n') {
-        Some((line, rest)) => Some((line, rest)),
-        None => Some((text, &text[text.len()..])),
-    }
+    Some(split_at_first(text, b'\n').unwrap_or((text, &text[text.len()..])))
 }
