@@ -2,8 +2,8 @@ use Rattle.std.proofs.Common.{sym, arith}
 use Rattle.listing.proofs.Spelling.{length_digit, length_digits, length_most}
 use Rattle.listing.proofs.decimal.+decimal_length.Goals as goal
 
-pub returns-then-n-lt10 : goal.returns-then-n-lt10
-returns-then-n-lt10 t c = record { len = sym (length_digit c.args.n (omega arith)); most = omega arith }
+pub returns-then-n-lt10-clause-len : goal.returns-then-n-lt10-clause-len
+returns-then-n-lt10-clause-len t c = sym (length_digit c.args.n (omega arith))
 
 pub returns-else-n-lt10 : goal.returns-else-n-lt10
 returns-else-n-lt10 t c =

@@ -1,5 +1,5 @@
 use Rattle.std.proofs.Common.{ℕ, sym, ◌∙◌, arith}
-use Rattle.listing.proofs.Spelling.{ButLast, first, later, ends, written, length_digits, length_most}
+use Rattle.listing.proofs.Spelling.{ButLast, first, later, ends, written, length_digits}
 use Rattle.listing.proofs.decimal.+write_decimal.Goals as goal
 use Rattle.listing.proofs.decimal.+write_decimal.Goals.{Joined-n-lt10, then-n-lt10, else-n-lt10}
 
@@ -17,11 +17,6 @@ write_decimal-at-requires t c = let s = length_digits c.args.n (omega arith) (om
 
 pub bounds-out-at : goal.bounds-out-at
 bounds-out-at t c = let e = ends (but_last t c) in omega arith
-
-pub overflow_add-result : goal.overflow_add-result
-overflow_add-result t c =
-    let e = ends (but_last t (goal.at.overflow_add-result t c).Joined-n-lt10) in
-    omega (arith, length_most c.args.n (omega arith))
 
 pub returns : goal.returns
 returns t c =
