@@ -1,4 +1,3 @@
-pub mod Lending
 pub mod Running
 pub mod Drawn
 pub mod Contents

@@ -68,6 +68,3 @@ module _ {f : ℕ → List ℕ} {n : ℕ} {old out : List ℕ} {at j : ℕ} (r :
         behind old out part (joined_below j f) b at r.here r.bytes w
         ∙ ap (λ x. onto x old) (ap (λ x. joined_below j f ++ x) e ∙ sym (joined_more f j));
   }
-
-  pub run_end : j ≡ n → (at ≡ length (joined_below n f)) × (out ≡ onto (joined_below n f) old)
-  run_end e = (r.here ∙ ap (λ m. length (joined_below m f)) e, r.bytes ∙ ap (λ m. onto (joined_below m f) old) e)

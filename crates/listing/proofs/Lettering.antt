@@ -1,6 +1,6 @@
 -- Verdicts written letter by letter.
-use Rattle.std.proofs.Common.{◌≡◌, ℕ, ◌+◌, ◌<◌, ◌≤◌, List, [], ◌∷◌, ◌++◌, map, length, get_or, take, set, sym, refl, ap, ◌∙◌, arith}
-use Rattle.std.proofs.lemmas.List.{length-map, length-take-le, take_all, drop-set-lt, map_more}
+use Rattle.std.proofs.Common.{◌≡◌, ℕ, ◌+◌, ◌<◌, List, [], ◌∷◌, ◌++◌, map, length, get_or, take, set, sym, ap, ◌∙◌, arith}
+use Rattle.std.proofs.lemmas.List.{length-map, length-take-le, map_more}
 use Rattle.vocabulary.specs.declared.verdict.Verdict.{Verdict}
 use Rattle.vocabulary.specs.Numbers.{letter}
 use Rattle.answers.specs.Lines.{letters}
@@ -11,11 +11,6 @@ use Rattle.listing.proofs.Fronts.{Front, push}
 pub record Lettered (vs : List Verdict) (old out : List ℕ) (at k : ℕ) : Type 0 where
   pub here : at ≡ k + 1
   pub bytes : out ≡ onto (letters (take k vs)) old
-
--- a blank is written
-pub lettered_none : (vs : List Verdict) (old : List ℕ) → 0 < length old → Lettered vs (set old 0 32) (set old 0 32) 1 0
-lettered_none vs [] h = absurd (omega arith)
-lettered_none vs (b ∷ old) h = record { here = refl; bytes = refl }
 
 module _ {vs : List Verdict} {old out : List ℕ} {at k : ℕ} (so : Lettered vs old out at k) where
   pub lettered_more : (d : Verdict) → k < length vs → length vs < length old → (b : ℕ) → b ≡ letter (get_or vs k d) → Lettered vs old (set out at b) (at + 1) (k + 1)
@@ -28,10 +23,3 @@ module _ {vs : List Verdict} {old out : List ℕ} {at k : ℕ} (so : Lettered vs
         bytes = (push so_far b (omega arith)).bytes
             ∙ ap (λ x. onto (32 ∷ x) old) (ap (λ x. map letter (take k vs) ++ x ∷ []) is ∙ sym (map_more letter vs k d h));
       }
-
--- the loop that wrote them began with the blank in its place
-pub lettered_end : (vs : List Verdict) (old out : List ℕ) (at k : ℕ) → Lettered vs (set old 0 32) out at k → length vs ≤ k → out ≡ onto (letters vs) old
-lettered_end vs old out at k so h =
-    so.bytes
-    ∙ ap (λ x. onto (letters x) (set old 0 32)) (take_all k vs h)
-    ∙ ap (λ x. letters vs ++ x) (drop-set-lt (length (letters vs)) old 0 32 (omega arith))

@@ -32,9 +32,6 @@ pub record Stepped (steps : List Step) (old out : List ℕ) (at k : ℕ) : Type 
   pub here : at ≡ 8 * k
   pub bytes : out ≡ onto (curve_bytes (take k steps)) old
 
-pub stepped_none : (steps : List Step) (old : List ℕ) → Stepped steps old old 0 0
-stepped_none steps old = record { here = refl; bytes = refl }
-
 length_step : (s : Step) → length (step_bytes s) ≡ 8
 unfolding word_bytes
 length_step s = refl

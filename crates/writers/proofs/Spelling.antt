@@ -12,8 +12,5 @@ module _ (p : List ℕ) (n : ℕ) (is : p ≡ word_bytes n) where
   spelled_last = λ i. get_or (is i) 0 0 ∷ get_or (is i) 1 0 ∷ get_or (is i) 2 0 ∷ get_or (is i) 3 0 ∷ []
 
 module _ (p q : List ℕ) (m n : ℕ) (is : p ≡ word_bytes m) (next : q ≡ word_bytes n) where
-  pub two_words : get_or p 0 0 ∷ get_or p 1 0 ∷ get_or p 2 0 ∷ get_or p 3 0 ∷ get_or q 0 0 ∷ get_or q 1 0 ∷ get_or q 2 0 ∷ get_or q 3 0 ∷ [] ≡ word_bytes m ++ word_bytes n
-  two_words = spelled p m is _ ∙ ap (λ l. word_bytes m ++ l) (spelled_last q n next)
-
   pub three_words : (r : List ℕ) (o : ℕ) → r ≡ word_bytes o → get_or p 0 0 ∷ get_or p 1 0 ∷ get_or p 2 0 ∷ get_or p 3 0 ∷ get_or q 0 0 ∷ get_or q 1 0 ∷ get_or q 2 0 ∷ get_or q 3 0 ∷ get_or r 0 0 ∷ get_or r 1 0 ∷ get_or r 2 0 ∷ get_or r 3 0 ∷ [] ≡ word_bytes m ++ (word_bytes n ++ word_bytes o)
   three_words r o last = spelled p m is _ ∙ ap (λ l. word_bytes m ++ l) (spelled q n next _ ∙ ap (λ l. word_bytes n ++ l) (spelled_last r o last))

@@ -7,17 +7,8 @@ use Rattle.listing.proofs.line.write_line.Goals as goal
 pub write_verdicts-at-requires : goal.write_verdicts-at-requires
 write_verdicts-at-requires c = let l = length_line c.args.resource c.args.answer.now in search rules
 
-pub slice_bounds-write_owed-count : goal.slice_bounds-write_owed-count
-slice_bounds-write_owed-count c = let l = length_line c.args.resource c.args.answer.now in search rules
-
-pub slice_bounds-write_owed-start : goal.slice_bounds-write_owed-start
-slice_bounds-write_owed-start c = let l = length_line c.args.resource c.args.answer.now in search rules
-
 pub write_owed-requires : goal.write_owed-requires
 write_owed-requires c = let l = length_line c.args.resource c.args.answer.now in search rules
-
-pub overflow_add-result : goal.overflow_add-result
-overflow_add-result c = let l = length_line c.args.resource c.args.answer.now in search rules
 
 pub returns : goal.returns
 unfolding line_of

@@ -6,9 +6,6 @@ use Rattle.listing.proofs.whole.listing_length.Goals as goal
 pub loop-answer-init : goal.loop-answer-init
 loop-answer-init c = (ap length (sym (joined_none (line_at c.args.answers.now))), omega arith)
 
-pub length_if-sum-requires : goal.length_if-sum-requires
-length_if-sum-requires c = c.requires c.loop-answer.answer-index c.loop-answer-test.true
-
 pub loop-answer-preserved : goal.loop-answer-preserved
 loop-answer-preserved c =
     let more = length_more (line_at c.args.answers.now) c.loop-answer.answer-index in

@@ -8,8 +8,7 @@ pub loop-step-preserved : goal.loop-step-preserved
 loop-step-preserved c =
     stepped_more c.loop-step.invariant _ (omega arith) _ _ c.step_bytes.ensures c.write_bytes-at.ensures.bytes _ c.write_bytes-at.ensures.len
 
-pub returns : goal.returns
-returns c =
+pub returns-clause-whole : goal.returns-clause-whole
+returns-clause-whole c =
     let long : length (row_steps c.args.row) ≡ c.args.row.count = length-take-le c.args.row.count c.args.row.steps (omega arith) in
-    let done = stepped_end c.loop-step.invariant (omega arith) in
-    record { len = omega arith; whole = done.0; bytes = done.1 }
+    (stepped_end c.loop-step.invariant (omega arith)).0

@@ -7,18 +7,14 @@ use Rattle.table.specs.Tables.{slots_of}
 use Rattle.book.proofs.Drawing.{answered}
 use Rattle.book.proofs.book.Book.question.Goals as goal
 
-pub returns : goal.returns
-returns g c =
+pub returns-clause-asked : goal.returns-clause-asked
+returns-clause-asked g c =
     let m = g.R.Rules.meanings c.args.self.now.rules in
     let s = slots_of c.args.self.now.table in
-    let t = c.args.self.now.table in
+    λ fit.
+    let is = c.question.ensures ∙ answered m c.args.self.now.table fit c.args.resource in
     record {
-      rows = record { found = λ _. (refl, c.question.ensures); absent = λ far. absurd (omega arith) };
-      asked = λ fit.
-          let is = c.question.ensures ∙ answered m t fit c.args.resource in
-          record {
-            found = λ _. (refl, is);
-            without_standing = λ _ none. is ∙ unfound m (lines s) (own s) c.args.resource (ap (option_map standing_of) none);
-            absent = λ far. absurd (omega arith);
-          };
+      found = λ _. (refl, is);
+      without_standing = λ _ none. is ∙ unfound m (lines s) (own s) c.args.resource (ap (option_map standing_of) none);
+      absent = λ far. absurd (omega arith);
     }

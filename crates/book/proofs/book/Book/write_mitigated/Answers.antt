@@ -10,12 +10,9 @@ use Rattle.offers.proofs.Offering.{rows_said}
 use Rattle.book.proofs.Drawing.{redrawn}
 use Rattle.book.proofs.book.Book.write_mitigated.Goals as goal
 
-pub returns : goal.returns
+pub returns-clause-written : goal.returns-clause-written
 unfolding file_of mitigated
-returns g c =
+returns-clause-written g c =
     let m = g.R.Rules.meanings c.args.self.now.rules in
     let t = c.args.self.now.table in
-    record {
-      rows = c.write_file.ensures;
-      written = λ fit. redrawn (ap (entry_file kinds) (same_slots (mitigated_rows m t) (mitigated_held m (slots_of t)) (rows_said m t fit))) c.write_file.ensures;
-    }
+    λ fit. redrawn (ap (entry_file kinds) (same_slots (mitigated_rows m t) (mitigated_held m (slots_of t)) (rows_said m t fit))) c.write_file.ensures
