@@ -1,6 +1,6 @@
 -- What rows, remarks and records hold, as the entries of their slots.
-use Rattle.std.proofs.Common.{◌≡◌, ℕ, ◌+◌, ◌*◌, ◌≤◌, List, length, take, Some, Option, sym, ap, ◌∙◌, subst, arith}
-use Rattle.std.proofs.lemmas.List.{length-take-le, take_all}
+use Rattle.std.proofs.Common.{◌≡◌, ℕ, ◌+◌, ◌*◌, ◌≤◌, length, Some, Option, sym, ap, ◌∙◌, subst, arith}
+use Rattle.std.proofs.lemmas.List.{length-take-le}
 use Rattle.curves.specs.declared.row.Row.{Row}
 use Rattle.curves.specs.Rows.{row_steps}
 use Rattle.bodies.specs.Curves.{curve_bytes}

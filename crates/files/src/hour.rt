@@ -16,7 +16,7 @@ ghost use Rattle.ledger.specs.Slots.{entry_of};
 use crate::filled::Filled;
 use crate::slots::Slots;
 use bodies::steps::most_steps;
-use curves::curve::Curve;
+use curves::curve::made::end_in;
 use curves::row::Row;
 use entries::head::Head;
 use table::hour::Table;
@@ -66,7 +66,7 @@ fn curve_slot(head: Head, row: Row) -> Option<Filled>
     ensures bytes { slot_bytes result ≡ entry_of head (option_map curve_bytes (curve_in (most_of head.sub) row)) }
     ensures sound { Sound result }
 {
-    Curve::of_row(row, most_steps(head.sub)).map(|_| Filled::Curve { head, row })
+    end_in(&row, most_steps(head.sub)).map(|_| Filled::Curve { head, row })
 }
 
 // The same words, counted no further than there are bytes.
