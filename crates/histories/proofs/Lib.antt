@@ -1,3 +1,2 @@
-pub mod Replaying
 pub mod Comparing
 pub mod Filled

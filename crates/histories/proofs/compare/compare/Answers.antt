@@ -7,24 +7,21 @@ use Rattle.histories.specs.Histories.{slots_after}
 use Rattle.histories.proofs.Comparing.{well, files_are, reloaded, taken, mitigated_fits, stays, compared, whole}
 use Rattle.histories.proofs.compare.compare.Goals as goal
 
-pub of-of_first-requires : goal.of-of_first-requires
-of-of_first-requires g c = record { well = well _ _ (acts_of c.args.first.now) c.replay-one.ensures.ledger; ranged = c.replay-one.ensures.ranged }
+pub of-of_first-requires-clause-well : goal.of-of_first-requires-clause-well
+of-of_first-requires-clause-well g c = well _ _ (acts_of c.args.first.now) c.replay-one.ensures.ledger
 
-pub of-of_second-requires : goal.of-of_second-requires
-of-of_second-requires g c = record { well = well _ _ (acts_of c.args.second.now) c.replay-two.ensures.ledger; ranged = c.replay-two.ensures.ranged }
+pub of-of_second-requires-clause-well : goal.of-of_second-requires-clause-well
+of-of_second-requires-clause-well g c = well _ _ (acts_of c.args.second.now) c.replay-two.ensures.ledger
 
-pub file-requires : goal.file-requires
-file-requires g c =
+pub file-requires-clause-well : goal.file-requires-clause-well
+file-requires-clause-well g c =
     let meant = g.R.Rules.meanings in
     let m = meant c.args.first_rules in
     let keeps = g.met.R.Rules.lawful c.args.first_rules in
     let first = acts_of c.args.first.now in
     let left = files_are _ _ first c.replay-one.ensures.ledger m _ (ap meant c.replay-one.ensures.bounds) _ c.of-of_first.ensures in
     let fits = mitigated_fits m keeps first in
-    record {
-      well = subst (WellFormed kinds) (sym (reloaded (mitigated m (slots_after first)) fits _ _ (c.part.ensures ∙ left.mitigated_file_drawn.same) c.open-new.ensures.ledger _ c.load.ensures.ledger)) fits;
-      ranged = c.load.ensures.ranged c.open-new.ensures.ranged;
-    }
+    subst (WellFormed kinds) (sym (reloaded (mitigated m (slots_after first)) fits _ _ (c.part.ensures ∙ left.mitigated_file_drawn.same) c.open-new.ensures.ledger _ c.load.ensures.ledger)) fits
 
 pub returns : goal.returns
 returns g c =
