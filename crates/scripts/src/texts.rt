@@ -41,5 +41,5 @@ pub fn split_line(text: &[u8]) -> Option<(&[u8], &[u8])>
     if text.is_empty() {
         return None;
     }
-    Some(split_at_first(text, b'\n').unwrap_or((text, &text[text.len()..])))
+    split_at_first(text, b'\n').or(Some((text, &text[text.len()..])))
 }
