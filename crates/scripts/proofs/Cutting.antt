@@ -82,6 +82,16 @@ more_words (x ∷ xs) h =
       | false ↦ λ k. ap (onto x) (more_words xs (omega arith))
     ] h
 
+-- no more lines than bytes
+pub few_lines : (text : List ℕ) → length (lines_of text) ≤ length text
+few_lines [] = omega arith
+few_lines (x ∷ xs) =
+    let h = few_lines xs in
+    elim (eqb x 10) as (λ v. length (cond v ([] ∷ lines_of xs) (onto x (lines_of xs))) ≤ suc (length xs)) [
+      | true ↦ omega arith
+      | false ↦ elim (lines_of xs) as (λ ls. length ls ≤ length xs → length (onto x ls) ≤ suc (length xs)) [ [] ↦ λ k. omega arith | l ∷ ls ↦ λ k. omega arith ] h
+    ]
+
 -- the first line of a text, and those of the rest
 pub more_lines : (text : List ℕ) → 0 < length text → lines_of text ≡ before 10 text ∷ lines_of (behind 10 text)
 more_lines [] h = absurd (omega arith)
