@@ -1,5 +1,6 @@
 -- The line of a resource in a listing.
-use Rattle.std.specs.Prelude.{ℕ, ◌+◌, ◌/◌, ◌%◌, Bool, cond, ◌&&◌, List, [], ◌∷◌, length, Some, None, Option, ◌==◌, nat_le, slice_index}
+use Rattle.std.specs.Prelude.{ℕ, ◌+◌, ◌/◌, ◌%◌, Bool, ◌&&◌, List, length, Option, ◌==◌, nat_le, slice_index}
+use Rattle.std.specs.List.{find}
 
 -- its first two bytes are the digits of the resource
 abbrev pub is_for : ℕ → List ℕ → Bool
@@ -7,5 +8,4 @@ is_for resource line = nat_le 2 (length line) && (slice_index line 0 == 48 + res
 
 -- the first such line
 abbrev pub first_for : ℕ → List (List ℕ) → Option (List ℕ)
-first_for resource [] = None
-first_for resource (line ∷ rest) = cond (is_for resource line) (Some line) (first_for resource rest)
+first_for resource = find (is_for resource)

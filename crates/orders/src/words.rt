@@ -61,7 +61,7 @@ pub fn verdict(letter: u8) -> &'static str {
 pub fn owed_in(line: &[u8]) -> Owed {
     let mut twentieths = 0u64;
     for byte in line.iter().skip(32) {
-        if let b'0'..=b'9' = *byte {
+        if byte.is_ascii_digit() {
             twentieths = twentieths
                 .saturating_mul(10)
                 .saturating_add(u64::from(*byte - b'0'));

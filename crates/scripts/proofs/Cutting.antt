@@ -4,7 +4,7 @@ use Rattle.std.proofs.lemmas.List.{take_all, drop_all, take_rest}
 use Rattle.std.proofs.lemmas.Bool.{leb-true, leb-false}
 use Rattle.std.specs.Prelude.{position}
 use Rattle.std.specs.List.{position_or_len}
-use Rattle.std.specs.Option.{unwrap_or}
+use Rattle.std.specs.Option.{unwrap_or, option_or}
 use Rattle.scripts.specs.Commands.{command_in, command_of}
 use Rattle.scripts.specs.Texts.{before, behind, onto, words_of, lines_of}
 
@@ -82,6 +82,16 @@ more_words (x ∷ xs) h =
       | false ↦ λ k. ap (onto x) (more_words xs (omega arith))
     ] h
 
+-- no more lines than bytes
+pub few_lines : (text : List ℕ) → length (lines_of text) ≤ length text
+few_lines [] = omega arith
+few_lines (x ∷ xs) =
+    let h = few_lines xs in
+    elim (eqb x 10) as (λ v. length (cond v ([] ∷ lines_of xs) (onto x (lines_of xs))) ≤ suc (length xs)) [
+      | true ↦ omega arith
+      | false ↦ elim (lines_of xs) as (λ ls. length ls ≤ length xs → length (onto x ls) ≤ suc (length xs)) [ [] ↦ λ k. omega arith | l ∷ ls ↦ λ k. omega arith ] h
+    ]
+
 -- the first line of a text, and those of the rest
 pub more_lines : (text : List ℕ) → 0 < length text → lines_of text ≡ before 10 text ∷ lines_of (behind 10 text)
 more_lines [] h = absurd (omega arith)
@@ -121,9 +131,9 @@ lines_by text line rest some front back = more_lines text some ∙ (λ i. sym fr
 pub first_line : (text : List ℕ) (r : Option (Bor (List ℕ) × Bor (List ℕ))) (whole : Bor (List ℕ) × Bor (List ℕ)) → whole.0.now ≡ text → whole.1.now ≡ []
     → MatchOption r (before 10 text ≡ text) (λ _. length (before 10 text) < length text)
     → MatchOption r (behind 10 text ≡ []) (λ p. (p.0.now ≡ before 10 text) × (p.1.now ≡ behind 10 text))
-    → ((unwrap_or r whole).0.now ≡ before 10 text) × ((unwrap_or r whole).1.now ≡ behind 10 text)
-first_line text None whole all none test parts = (all ∙ sym test, none ∙ sym parts)
-first_line text (Some p) whole all none test parts = parts
+    → (p : Bor (List ℕ) × Bor (List ℕ)) × (option_or r (Some whole) ≡ Some p) × (p.0.now ≡ before 10 text) × (p.1.now ≡ behind 10 text)
+first_line text None whole all none test parts = (whole, refl, all ∙ sym test, none ∙ sym parts)
+first_line text (Some p) whole all none test parts = (p, refl, parts.0, parts.1)
 
 -- a text has at least one word, so that a line of four words and more is no command
 more_than_four : (a b c d text : List ℕ) → command_in (a ∷ b ∷ c ∷ d ∷ words_of text) ≡ None

@@ -1,8 +1,9 @@
 -- A script gathered line by line.
-use Rattle.std.proofs.Common.{◌≡◌, ℕ, ◌+◌, ◌<◌, ◌≤◌, true, ◌&&◌, leb, List, [], ◌∷◌, ◌++◌, map, length, take, drop, Some, Ok, Err, Result, sym, refl, ap, ◌∙◌, append_assoc, arith}
-use Rattle.std.proofs.lemmas.List.{take-take, length-take, map_push}
+use Rattle.std.proofs.Common.{◌≡◌, ℕ, ◌+◌, ◌≤◌, true, ◌&&◌, leb, List, [], ◌∷◌, ◌++◌, map, length, take, drop, Some, None, Ok, Err, Result, sym, refl, ap, ◌∙◌, append_assoc, arith}
+use Rattle.std.proofs.lemmas.List.{take-take, length-take, map_push, append-nil}
 use Rattle.std.proofs.lemmas.Slice.{between_is}
 use Rattle.std.proofs.lemmas.Bool.{and_from, and_parts, le-leb, leb-true}
+use Rattle.scripts.proofs.Cutting.{few_lines}
 use Rattle.scripts.specs.Commands.{Order, post, load}
 use Rattle.scripts.specs.Ranges.{part, taken_from, within, all_within}
 use Rattle.scripts.specs.Scripts.{in_front, calls_from, ReadCall}
@@ -63,26 +64,51 @@ front_more done o number (Err later) = refl
 
 -- so far `calls` were read into `store`, `number` lines are done and `rest` is left
 pub record Gathered (above : ℕ) (text rest store : List ℕ) (calls : List Scripted) (number : ℕ) : Type 0 where
-  pub fits : number + length rest ≤ above + length text
+  pub fits : number + length (lines_of rest) ≤ above + length text
   pub inside : all_within (length store) calls ≡ true
   pub left : with_front (map (taken_from store) calls) (calls_from number (lines_of rest)) ≡ calls_from above (lines_of text)
 
+front_none : (r : Result (List Order) ℕ) → with_front [] r ≡ r
+front_none (Ok calls) = refl
+front_none (Err number) = refl
+
+-- no call was read
+pub begins : (above : ℕ) (text rest store : List ℕ) (calls : List Scripted) (number : ℕ) → rest ≡ text → calls ≡ [] → number ≡ above → Gathered above text rest store calls number
+begins above text rest store calls number whole none first =
+    let few = few_lines rest in
+    let long = ap length whole in
+    record {
+      fits = omega arith;
+      inside = ap (all_within (length store)) none;
+      left = (λ i. with_front (map (taken_from store) (none i)) (calls_from (first i) (lines_of (whole i)))) ∙ front_none _;
+    }
+
 module _ {above : ℕ} {text rest store : List ℕ} {calls : List Scripted} {number : ℕ} (so : Gathered above text rest store calls number) where
-  pub goes_on : (line more grown : List ℕ) → lines_of rest ≡ line ∷ lines_of more → (call : Scripted) (after : List Scripted) → length more < length rest → ReadCall line store grown (Some call) → after ≡ calls ++ call ∷ []
-      → Gathered above text more grown after (number + 1)
-  goes_on line more grown cut call after shorter read pushed =
+  pub goes_on : (line more grown : List ℕ) → lines_of rest ≡ line ∷ lines_of more → (call : Scripted) (after : List Scripted) → ReadCall line store grown (Some call) → after ≡ calls ++ call ∷ []
+      → (next : ℕ) → next ≡ number + 1 → Gathered above text more grown after next
+  goes_on line more grown cut call after read pushed next one-more =
       let keeps = read.kept in
       let fits = so.fits in
+      let long = ap length cut in
       let done = map (taken_from store) calls in
       let later = calls_from (number + 1) (lines_of more) in
       record {
         fits = omega arith;
         inside = ap (all_within (length grown)) pushed ∙ more_within store grown keeps calls call so.inside read.inside;
         left =
-            ap (λ l. with_front (map (taken_from grown) l) later) pushed
+            (λ i. with_front (map (taken_from grown) (pushed i)) (calls_from (one-more i) (lines_of more)))
             ∙ ap (λ l. with_front l later) (map_push (taken_from grown) calls call ∙ ap (λ l. l ++ taken_from grown call ∷ []) (same_calls store grown keeps calls so.inside))
             ∙ front_more done (taken_from grown call) (number + 1) later
             ∙ ap (λ o. with_front done (in_front o (number + 1) later)) read.says
             ∙ ap (λ ls. with_front done (calls_from number ls)) (sym cut)
             ∙ so.left;
       }
+
+  -- a line that is no call, and no line any more
+  pub stops : (line : List ℕ) (more : List (List ℕ)) (grown : List ℕ) → lines_of rest ≡ line ∷ more → ReadCall line store grown None → calls_from above (lines_of text) ≡ Err (number + 1)
+  stops line more grown cut read =
+      let done = map (taken_from store) calls in
+      sym so.left ∙ ap (λ ls. with_front done (calls_from number ls)) cut ∙ ap (λ o. with_front done (in_front o (number + 1) (calls_from (number + 1) more))) (sym read.says)
+
+  pub ends : lines_of rest ≡ [] → calls_from above (lines_of text) ≡ Ok (map (taken_from store) calls)
+  ends none = sym so.left ∙ ap (λ ls. with_front (map (taken_from store) calls) (calls_from number ls)) none ∙ ap Ok (append-nil _)

@@ -7,7 +7,7 @@ use crate::fault::Fault;
 use crate::hex::decode_part;
 use crate::script::Script;
 use crate::scripted::Scripted;
-use crate::texts::split_line;
+use crate::texts::lines_in;
 use std::alloc::{AllocError, Global};
 
 // The call that a line is, if it is one, its bytes put behind those of the store.
@@ -39,15 +39,13 @@ pub fn read_script(heap: Global, text: &[u8], above: usize) -> Result<Script, Fa
 {
     let mut bytes = Vec::new(heap);
     let mut calls = Vec::new(heap);
-    let mut rest = text;
-    let mut number = above;
-    while let Some((line, more)) = split_line(rest) {
-        number += 1;
+    for (i, line) in lines_in(text).enumerate() {
         let Some(call) = read_call(line, &mut bytes)? else {
-            return Err(Fault::NoCall { line: number });
+            return Err(Fault::NoCall {
+                line: above + i + 1,
+            });
         };
         calls.push(call)?;
-        rest = more;
     }
     Ok(Script { bytes, calls })
 }

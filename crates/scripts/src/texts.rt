@@ -1,5 +1,5 @@
 // Texts cut into words and lines.
-ghost use Rattle.std.specs.Prelude.{◌≡◌, ◌==◌, ◌<◌, [], ◌∷◌, length, position, MatchOption};
+ghost use Rattle.std.specs.Prelude.{◌≡◌, ◌==◌, ◌<◌, ◌^◌, [], ◌∷◌, length, position, MatchOption};
 ghost use Rattle.std.specs.Str.{bytes_eq};
 ghost use Rattle.scripts.specs.Texts.{before, behind, words_of, lines_of};
 
@@ -41,5 +41,35 @@ pub fn split_line(text: &[u8]) -> Option<(&[u8], &[u8])>
     if text.is_empty() {
         return None;
     }
-    Some(split_at_first(text, b'\n').unwrap_or((text, &text[text.len()..])))
+    split_at_first(text, b'\n').or(Some((text, &text[text.len()..])))
+}
+
+// The lines of a text, in order, each without its LF.
+#[derive(Clone, Copy)]
+pub struct Lines<'a> {
+    rest: &'a [u8],
+    pub ghost fits: { length (lines_of rest.now) < 2 ^ 64 },
+}
+
+pub fn lines_in(text: &[u8]) -> Lines<'_>
+    ensures { result.rest.now ≡ text.now }
+{
+    Lines { rest: text }
+}
+
+impl<'a> Iterator for Lines<'a> {
+    ghost use Rattle.std.specs.Iterator.{YieldsFirstRef, item_count};
+    ghost use Rattle.scripts.specs.Texts.{lines_of};
+
+    type Item = &'a [u8];
+
+    ghost next_gives = { YieldsFirstRef (λ s. lines_of s.rest.now) };
+
+    ghost remaining = { item_count (λ s. lines_of s.rest.now) };
+
+    fn next(&mut self) -> Option<&'a [u8]> {
+        let (line, rest) = split_line(self.rest)?;
+        self.rest = rest;
+        Some(line)
+    }
 }

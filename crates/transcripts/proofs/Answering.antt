@@ -1,5 +1,5 @@
 -- A script answered line by line.
-use Rattle.std.proofs.Common.{◌≡◌, ℕ, ◌+◌, ◌<◌, ◌≤◌, List, [], ◌∷◌, ◌++◌, length, Some, None, Option, sym, ap, ◌∙◌, subst, append_assoc, arith}
+use Rattle.std.proofs.Common.{◌≡◌, ℕ, ◌+◌, List, [], ◌∷◌, ◌++◌, Some, None, Option, sym, ap, ◌∙◌, subst, append_assoc}
 use Rattle.charges.specs.Findings.{Meanings}
 use Rattle.entries.specs.Table.{kinds}
 use Rattle.entries.specs.Entries.{head}
@@ -26,29 +26,25 @@ line_keeps l (Some o) well = after_keeps l o well
 
 -- so far `number` lines are answered by `text`, which leaves the ledger l, and `rest` is left
 pub record Answered (m : Meanings) (script rest : List ℕ) (l : Ledger) (text : List ℕ) (number : ℕ) : Type 0 where
-  pub fits : number + length rest ≤ length script
   pub well : WellFormed kinds l.slots
   pub left : text ++ transcript m l number (lines_of rest) ≡ transcript m (empty kinds) 0 (lines_of script)
 
 -- a new ledger, and no line answered
-pub begins : (m : Meanings) (script : List ℕ) (l : Ledger) (text : List ℕ) → l ≡ empty kinds → text ≡ [] → Answered m script script l text 0
-begins m script l text new none = record {
-  fits = omega arith;
+pub begins : (m : Meanings) (script rest : List ℕ) (l : Ledger) (text : List ℕ) (number : ℕ) → l ≡ empty kinds → text ≡ [] → rest ≡ script → number ≡ 0 → Answered m script rest l text number
+begins m script rest l text number new none whole first = record {
   well = subst (λ (x : Ledger). WellFormed kinds x.slots) (sym new) (ledger_keeps kinds []);
-  left = λ i. none i ++ transcript m (new i) 0 (lines_of script);
+  left = λ i. none i ++ transcript m (new i) (first i) (lines_of (whole i));
 }
 
 module _ {m : Meanings} {script rest : List ℕ} {l : Ledger} {text : List ℕ} {number : ℕ} (so : Answered m script rest l text number) where
-  pub goes_on : (k : Meanings) → k ≡ m → (line more : List ℕ) (l' : Ledger) (answer shown text' : List ℕ) → lines_of rest ≡ line ∷ lines_of more → length more < length rest
-      → answer ≡ reply_line k l (number + 1) (command_of line) → l' ≡ after_line l (command_of line) → shown ≡ answer → text' ≡ text ++ shown
-      → Answered m script more l' text' (number + 1)
-  goes_on k alike line more l' answer shown text' cut shorter said is same pushed =
-      let fits = so.fits in
+  pub goes_on : (k : Meanings) → k ≡ m → (line more : List ℕ) (l' : Ledger) (answer shown text' : List ℕ) → lines_of rest ≡ line ∷ lines_of more
+      → (at : ℕ) → at ≡ number → answer ≡ reply_line k l (at + 1) (command_of line) → l' ≡ after_line l (command_of line) → shown ≡ answer → text' ≡ text ++ shown
+      → (next : ℕ) → next ≡ number + 1 → Answered m script more l' text' next
+  goes_on k alike line more l' answer shown text' cut at counted said is same pushed next one-more =
       record {
-        fits = omega arith;
         well = subst (λ (x : Ledger). WellFormed kinds x.slots) (sym is) (line_keeps l (command_of line) so.well);
         left =
-            (λ i. (pushed ∙ ap (λ a. text ++ a) (same ∙ said ∙ ap (λ n. reply_line n l (number + 1) (command_of line)) alike)) i ++ transcript m (is i) (number + 1) (lines_of more))
+            (λ i. (pushed ∙ ap (λ a. text ++ a) (same ∙ said ∙ (λ j. reply_line (alike j) l (counted j + 1) (command_of line)))) i ++ transcript m (is i) (one-more i) (lines_of more))
             ∙ append_assoc text _ _
             ∙ ap (λ ls. text ++ transcript m l number ls) (sym cut)
             ∙ so.left;

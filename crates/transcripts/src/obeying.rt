@@ -12,6 +12,7 @@ ghost use Rattle.transcripts.specs.Replies.{hex_line as hex_line_of, found_text}
 ghost use Rattle.transcripts.specs.Transcripts.{after, reply, after_line, reply_line};
 
 use crate::texts::{answer_text, hex_line, no_call, told_text};
+use answering::texts::refused;
 use answers::answer::Answer;
 use book::book::Book;
 use charges::rules::Rules;
@@ -37,7 +38,7 @@ fn found<R: Rules>(heap: Global, book: &Book<R>, resource: u8) -> Result<String,
     let mut answer = Answer::nothing();
     match book.question(resource, &mut answer) {
         Ok(()) => answer_text(heap, &answer),
-        Err(refusal) => told_text(heap, Err(refusal)),
+        Err(refusal) => refused(heap, refusal),
     }
 }
 

@@ -12,7 +12,7 @@ use bounds::ceiling::Ceiling;
 use bounds::exemption::Exemption;
 use bounds::shortfall::Shortfall;
 use charges::rules::Rules;
-use scripts::texts::split_line;
+use scripts::texts::lines_in;
 use std::alloc::{AllocError, Global};
 use verdicts::places::standard;
 
@@ -26,13 +26,9 @@ pub fn transcript_over<R: Rules + Drop>(
 {
     let mut book = Book::open(rules);
     let mut text = String::new(heap);
-    let mut rest = script;
-    let mut number = 0;
-    while let Some((line, more)) = split_line(rest) {
-        number += 1;
-        let answer = obey_line(heap, &mut book, line, number)?;
+    for (i, line) in lines_in(script).enumerate() {
+        let answer = obey_line(heap, &mut book, line, i + 1)?;
         text.push_str(answer.as_str())?;
-        rest = more;
     }
     Ok(text)
 }
