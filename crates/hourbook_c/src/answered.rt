@@ -6,21 +6,14 @@ use bodies::fault::Refusal;
 use book::book::Book;
 use charges::rules::Rules;
 use histories::replay::obey;
-use writers::bytes::write_bytes;
 
 // The number of a refusal, 0 for none, and the low four bytes of its place.
-fn answer_bytes(answer: Result<(), Refusal>) -> [u8; 5] {
+fn told_bytes(answer: Result<(), Refusal>) -> [u8; 5] {
     match answer {
         Ok(()) => [0; 5],
         Err(refusal) => {
-            let place = ((refusal.place & 0xffff_ffff) as u32).to_be_bytes();
-            [
-                refusal.fault.number(),
-                place[0],
-                place[1],
-                place[2],
-                place[3],
-            ]
+            let [a, b, c, d] = ((refusal.place & 0xffff_ffff) as u32).to_be_bytes();
+            [refusal.fault.number(), a, b, c, d]
         }
     }
 }
@@ -28,13 +21,11 @@ fn answer_bytes(answer: Result<(), Refusal>) -> [u8; 5] {
 // Makes the calls of a script in turn, and writes what each is told, five bytes a call, as far as there is room.
 pub fn write_answers<R: Rules>(book: &mut Book<R>, script: &[u8], out: &mut [u8]) {
     let mut rest = script;
-    let mut written = 0;
-    while out.len() - written >= 5 {
+    for bytes in out.chunks_exact_mut(5) {
         let Ok(Some((call, more))) = split_call(rest) else {
             return;
         };
-        let answer = obey(book, call);
-        written += write_bytes(&mut out[written..], &answer_bytes(answer));
+        bytes.copy_from_slice(&told_bytes(obey(book, call)));
         rest = more;
     }
 }
