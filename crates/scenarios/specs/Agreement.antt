@@ -1,5 +1,5 @@
 -- When a scenario agrees, and what is told where it does not.
-use Rattle.std.specs.Prelude.{◌≡◌, ℕ, List, [], ◌∷◌, Some, None, Ok, Err, Option, Result}
+use Rattle.std.specs.Prelude.{◌≡◌, ℕ, List, [], ◌∷◌, Ok, Err, Result}
 use Rattle.charges.specs.Findings.{Meanings}
 use Rattle.entries.specs.Files.{told, no_fault}
 use Rattle.entries.specs.Table.{kinds}
@@ -22,9 +22,9 @@ expected_of Mitigated e = e.mitigated.now
 abbrev pub AsExpected : Meanings → Slots → Expected → Document → Type 0
 AsExpected m s e d = drawn d m s ≡ expected_of d e
 
-abbrev pub FirstDifference : Meanings → Slots → Expected → Option Document → Type 0
-FirstDifference m s e None = (d : Document) → AsExpected m s e d
-FirstDifference m s e (Some d) = AsExpected m s e d → ⊥
+abbrev pub FirstDifference : Meanings → Slots → Expected → Result Unit Document → Type 0
+FirstDifference m s e (Ok _) = (d : Document) → AsExpected m s e d
+FirstDifference m s e (Err d) = AsExpected m s e d → ⊥
 
 -- what an empty hour holds after the scenario's entries were loaded
 abbrev pub slots_of_scenario : Expected → Slots

@@ -30,19 +30,19 @@ fn is_as_expected<R: Rules>(book: &Book<R>, document: Document, expected: &[u8])
     file(book, document).part() == expected
 }
 
-fn first_difference<R: Rules>(book: &Book<R>, expected: &Expected) -> Option<Document>
+fn first_difference<R: Rules>(book: &Book<R>, expected: &Expected) -> Result<(), Document>
     requires well { WellFormed kinds (slots_of book.now.table) }
     requires ranged { AllRanged book.now.table }
     ensures { FirstDifference (R.meanings book.now.rules) (slots_of book.now.table) expected.now result }
 {
     if !is_as_expected(book, Document::Entries, expected.entries) {
-        Some(Document::Entries)
+        Err(Document::Entries)
     } else if !is_as_expected(book, Document::Listing, expected.listing) {
-        Some(Document::Listing)
+        Err(Document::Listing)
     } else if !is_as_expected(book, Document::Mitigated, expected.mitigated) {
-        Some(Document::Mitigated)
+        Err(Document::Mitigated)
     } else {
-        None
+        Ok(())
     }
 }
 
@@ -50,11 +50,6 @@ pub fn compare<R: Rules + Drop>(rules: R, expected: &Expected) -> Result<(), Dis
     ensures { Compared (R.meanings rules) expected.now result }
 {
     let mut book = Book::open(rules);
-    if let Err(refusal) = book.load(expected.entries) {
-        return Err(Disagreement::Refused(refusal));
-    }
-    match first_difference(&book, expected) {
-        Some(document) => Err(Disagreement::Differs(document)),
-        None => Ok(()),
-    }
+    book.load(expected.entries).map_err(Disagreement::Refused)?;
+    first_difference(&book, expected).map_err(Disagreement::Differs)
 }

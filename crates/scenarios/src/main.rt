@@ -23,13 +23,8 @@ fn read_document(
 ) -> Result<Vec<u8>, Disagreement> {
     let name = scenario.name;
     let kind = document_name(document);
-    let Ok(path) = format!(in rt.alloc(); "{name}.{kind}") else {
-        return Err(Disagreement::Unread(document));
-    };
-    match fs::read(rt, path) {
-        Ok(bytes) => Ok(bytes),
-        Err(_) => Err(Disagreement::Unread(document)),
-    }
+    let path = format!(in rt.alloc(); "{name}.{kind}").map_err(|_| Disagreement::Unread(document))?;
+    fs::read(rt, path).map_err(|_| Disagreement::Unread(document))
 }
 
 fn run_scenario(rt: &HostRuntime, scenario: &Scenario) -> Result<(), Disagreement> {

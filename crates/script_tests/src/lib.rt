@@ -33,10 +33,7 @@ mod tests {
     }
 
     fn script(heap: Global, text: &[u8]) -> Result<Script, Fail> {
-        match read_script(heap, text, 0) {
-            Ok(script) => Ok(script),
-            Err(_) => Err(Fail::new("each line is a call")),
-        }
+        read_script(heap, text, 0).map_err(|_| Fail::new("each line is a call"))
     }
 
     // The line that is refused; 0 where none is, and 1000 where no line parts the text.
