@@ -11,7 +11,7 @@ use Rattle.table.specs.declared.hour.Table.{Table}
 use Rattle.table.specs.Tables.{slots_of}
 use Rattle.book.specs.Ledgers.{ledger_of}
 use Rattle.histories.specs.declared.document.Document.{Document}
-use Rattle.histories.proofs.Comparing.{slots_are, well}
+use Rattle.histories.proofs.Comparing.{well}
 use Rattle.scenarios.specs.declared.compare.Expected.{Expected}
 use Rattle.scenarios.specs.declared.outcome.Disagreement.{Disagreement}
 use Rattle.scenarios.specs.declared.outcome.Disagreement.TheVariants.{Differs}
@@ -27,10 +27,6 @@ module _ (e : Expected) (l : Ledger) (new : l ≡ empty kinds) where
 
     pub fits : WellFormed kinds (slots_of t)
     fits = well t is_open (loaded e.entries.now ∷ []) step_is
-
-    pub differs_alike : (m k : Meanings) → k ≡ m → (r : Result Unit Document) → FirstDifference k (slots_of t) e r → FirstDifference m (slots_of_scenario e) e r
-    differs_alike m k same r d =
-        subst (λ s. FirstDifference m s e r) (slots_are t is_open (loaded e.entries.now ∷ []) step_is) (subst (λ n. FirstDifference n (slots_of t) e r) same d)
 
 -- what is told of a difference, once the entries were taken
 pub compared : (m : Meanings) (e : Expected) (taken : Result Unit Refusal) (r : Result Unit Document) (q : Result Unit Disagreement) → is_ok taken ≡ true → told taken ≡ fault kinds (empty kinds) (loaded e.entries.now)

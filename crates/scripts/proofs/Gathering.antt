@@ -1,5 +1,5 @@
 -- A script gathered line by line.
-use Rattle.std.proofs.Common.{◌≡◌, ℕ, ◌+◌, ◌≤◌, true, ◌&&◌, leb, List, [], ◌∷◌, ◌++◌, map, length, take, drop, Some, None, Ok, Err, Result, sym, refl, ap, ◌∙◌, append_assoc, arith}
+use Rattle.std.proofs.Common.{◌≡◌, ℕ, ◌+◌, ◌≤◌, true, ◌&&◌, leb, List, [], ◌∷◌, ◌++◌, map, length, take, drop, Some, Ok, Err, Result, sym, refl, ap, ◌∙◌, append_assoc, arith}
 use Rattle.std.proofs.lemmas.List.{take-take, length-take, map_push, append-nil}
 use Rattle.std.proofs.lemmas.Slice.{between_is}
 use Rattle.std.proofs.lemmas.Bool.{and_from, and_parts, le-leb, leb-true}
@@ -103,12 +103,6 @@ module _ {above : ℕ} {text rest store : List ℕ} {calls : List Scripted} {num
             ∙ ap (λ ls. with_front done (calls_from number ls)) (sym cut)
             ∙ so.left;
       }
-
-  -- a line that is no call, and no line any more
-  pub stops : (line : List ℕ) (more : List (List ℕ)) (grown : List ℕ) → lines_of rest ≡ line ∷ more → ReadCall line store grown None → calls_from above (lines_of text) ≡ Err (number + 1)
-  stops line more grown cut read =
-      let done = map (taken_from store) calls in
-      sym so.left ∙ ap (λ ls. with_front done (calls_from number ls)) cut ∙ ap (λ o. with_front done (in_front o (number + 1) (calls_from (number + 1) more))) (sym read.says)
 
   pub ends : lines_of rest ≡ [] → calls_from above (lines_of text) ≡ Ok (map (taken_from store) calls)
   ends none = sym so.left ∙ ap (λ ls. with_front (map (taken_from store) calls) (calls_from number ls)) none ∙ ap Ok (append-nil _)

@@ -1,6 +1,5 @@
 pub mod Cutting
 pub mod Pairs
-pub mod Storing
 pub mod Gathering
 pub mod Taking
 pub mod Wholes

@@ -1,6 +1,6 @@
 -- Hex text two digits at a time.
-use Rattle.std.proofs.Common.{◌≡◌, ℕ, zero, suc, ◌+◌, ◌-◌, ◌*◌, ◌/◌, ◌%◌, ◌<◌, ◌≤◌, true, false, ◌&&◌, List, [], ◌∷◌, ◌++◌, length, get_or, take, drop, map, sym, refl, ap, ◌∙◌, append_assoc, arith}
-use Rattle.std.proofs.lemmas.List.{take_rest, append-nil, at_drop_more, at_drop_all}
+use Rattle.std.proofs.Common.{◌≡◌, ℕ, zero, suc, ◌+◌, ◌*◌, ◌/◌, ◌%◌, ◌<◌, ◌≤◌, true, false, ◌&&◌, List, [], ◌∷◌, ◌++◌, length, get_or, drop, map, refl, ap, ◌∙◌, append_assoc, arith}
+use Rattle.std.proofs.lemmas.List.{append-nil, at_drop_all}
 use Rattle.scripts.specs.Digits.{is_hex_digit, both_digits, hex_value, is_hex, hex_bytes, hex_digit, hex_of}
 use Rattle.std.proofs.lemmas.Bool.{and_from, and_right}
 use Rattle.std.specs.List.{list_all}
@@ -69,13 +69,6 @@ pub two_digits : (was one two e f : List ℕ) (d g high low : ℕ) → one ≡ w
     → two ≡ was ++ high ∷ low ∷ []
 two_digits was one two e f d g high low p q r s t u =
     q ∙ (λ i. p i ++ s i) ∙ (λ i. (was ++ r i) ++ g ∷ []) ∙ append_assoc was (d ∷ []) (g ∷ []) ∙ (λ i. was ++ t i ∷ u i ∷ [])
-
--- one byte more is written, and one less is left
-pub byte_written : (bytes done after : List ℕ) (i : ℕ) → i < length bytes → after ≡ done ++ hex_of (get_or bytes i 0 ∷ [])
-    → after ++ hex_of (drop (i + 1) bytes) ≡ done ++ hex_of (drop i bytes)
-byte_written bytes done after i h e =
-    let more = hex_of (drop (i + 1) bytes) in
-    ap (λ l. l ++ more) e ∙ append_assoc done (hex_of (get_or bytes i 0 ∷ [])) more ∙ ap (λ l. done ++ l) (sym (at_drop_more hex_of bytes i 0 h))
 
 pub all_written : (bytes done : List ℕ) (i : ℕ) → length bytes ≤ i → done ++ hex_of (drop i bytes) ≡ done
 all_written bytes done i h = ap (λ l. done ++ l) (at_drop_all hex_of bytes i h) ∙ append-nil done

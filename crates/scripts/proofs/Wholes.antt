@@ -1,6 +1,6 @@
 -- Texts of whole lines, and a text parted between two of its lines.
-use Rattle.std.proofs.Common.{◌≡◌, ℕ, ◌+◌, ◌-◌, ◌<◌, ◌≤◌, true, false, eqb, List, [], ◌∷◌, ◌++◌, length, take, Some, None, Option, sym, refl, ap, ◌∙◌, subst, ⊎_elim, append_assoc, arith}
-use Rattle.std.proofs.lemmas.List.{append-nil, length-append, take_at}
+use Rattle.std.proofs.Common.{◌≡◌, ℕ, ◌+◌, ◌<◌, ◌≤◌, true, false, eqb, List, [], ◌∷◌, ◌++◌, length, Some, None, Option, sym, refl, ap, ◌∙◌, subst, ⊎_elim, append_assoc, arith}
+use Rattle.std.proofs.lemmas.List.{length-append}
 use Rattle.std.proofs.lemmas.Bool.{cases_Bool, cond-true, cond-false}
 use Rattle.scripts.specs.Commands.{is}
 use Rattle.scripts.specs.Scripts.{under, parted}
@@ -77,17 +77,7 @@ pub record Unparted (text rest : List ℕ) (number : ℕ) : Type 0 where
   pub fits : number + length rest ≤ length text
 
 module _ {text rest : List ℕ} {number : ℕ} (so : Unparted text rest number) where
-  pub above_is : take (length text - length rest - 0) text ≡ so.front
-  above_is =
-      let long = ap length so.split ∙ length-append so.front rest in
-      ap (take (length text - length rest - 0)) so.split ∙ take_at so.front rest _ (omega arith)
-
   module _ (line more : List ℕ) (cut : lines_of rest ≡ line ∷ lines_of more) where
-    pub parts_here : is line "--" ≡ true → parted (lines_of text) ≡ Some (lines_of so.front, lines_of more)
-    parts_here e =
-        so.left ∙ ap (λ l. over (lines_of so.front) (parted l)) cut
-        ∙ ap (over (lines_of so.front)) (cond-true _ _ _ e) ∙ ap (λ l. Some (l, lines_of more)) (append-nil _)
-
     pub parts_later : 0 < length rest → is line "--" ≡ false → line ≡ before 10 rest → more ≡ behind 10 rest → length more < length rest → Unparted text more (number + 1)
     parts_later some e first behind-is shorter =
         let f = first_of rest some in

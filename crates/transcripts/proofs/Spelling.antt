@@ -1,8 +1,7 @@
 -- A letter for each verdict, in turn.
-use Rattle.std.proofs.Common.{◌≡◌, ℕ, ◌+◌, ◌<◌, ◌≤◌, List, [], ◌∷◌, ◌++◌, length, get_or, take, sym, ap, ◌∙◌, arith}
+use Rattle.std.proofs.Common.{◌≡◌, ℕ, ◌+◌, ◌<◌, ◌≤◌, List, [], ◌∷◌, ◌++◌, length, get_or, take, sym, ap, ◌∙◌}
 use Rattle.std.proofs.lemmas.List.{take_more, take_all, map_push}
 use Rattle.vocabulary.specs.declared.verdict.Verdict.{Verdict}
-use Rattle.vocabulary.specs.declared.verdict.Verdict.TheVariants.{NotTested, Passed, Failed}
 use Rattle.vocabulary.specs.Numbers.{letter}
 use Rattle.transcripts.specs.Replies.{spelled}
 
@@ -13,8 +12,3 @@ module _ (verdicts : List Verdict) (text : List ℕ) (i : ℕ) (so : text ≡ sp
 
   pub all : length verdicts ≤ i → text ≡ spelled verdicts
   all long = so ∙ ap spelled (take_all i verdicts long)
-
-pub letter_small : (v : Verdict) → letter v < 128
-letter_small NotTested = omega arith
-letter_small Passed = omega arith
-letter_small Failed = omega arith

@@ -1,6 +1,6 @@
 use Rattle.std.proofs.Common.{sym, ◌∙◌, arith}
 use Rattle.std.proofs.lemmas.Result.{err_from_is_err_and}
-use Rattle.scripts.proofs.Pairs.{written_is_hex, written_again, byte_written, all_written}
+use Rattle.scripts.proofs.Pairs.{written_is_hex, written_again, all_written}
 use Rattle.scripts.proofs.hex.write_hex.Goals as goal
 
 pub returns-in_err-write_byte : goal.returns-in_err-write_byte
@@ -11,9 +11,6 @@ returns-in_err-write_byte c =
       text = tt;
       again = (written_is_hex bytes (λ i. omega (arith, c.type_inv.bytes i)), written_again bytes (λ i. omega (arith, c.type_inv.bytes i)));
     })
-
-pub loop-byte-preserved : goal.loop-byte-preserved
-loop-byte-preserved c = byte_written c.args.bytes.now _ _ c.loop-byte.byte-index c.loop-byte-test.true c.in_ok-write_byte.ensures ∙ c.loop-byte.invariant
 
 pub returns : goal.returns
 returns c =

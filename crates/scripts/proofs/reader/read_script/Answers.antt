@@ -1,6 +1,6 @@
-use Rattle.std.proofs.Common.{◌+◌, vec_items, Err, sym, ap, ◌∙◌, subst, arith}
+use Rattle.std.proofs.Common.{vec_items, ap, ◌∙◌, subst, arith}
 use Rattle.scripts.specs.Scripts.{ReadCall}
-use Rattle.scripts.proofs.Gathering.{begins, goes_on, stops, ends}
+use Rattle.scripts.proofs.Gathering.{begins, goes_on}
 use Rattle.scripts.proofs.reader.read_script.Goals as goal
 
 pub loop-i-init : goal.loop-i-init
@@ -19,24 +19,3 @@ loop-i-preserved c =
     let read = subst (ReadCall line was store) c.in-Some-2.is c.in_ok-call.ensures in
     let one = step.2 in
     goes_on c.loop-i.invariant line c.next.new.self.iter.rest.now store step.0 c.in-Some-2.call (vec_items c.push.new.self) read c.in_ok-push.ensures.items _ (omega arith)
-
-pub overflow_add-result : goal.overflow_add-result
-overflow_add-result c =
-    let fits = c.loop-i.invariant.fits in
-    let room = c.requires in
-    let at = c.in-Some.ensures.steps.1 in
-    omega arith
-
-pub returns-in_default : goal.returns-in_default
-returns-in_default c =
-    let line = c.in-Some.line.now in
-    let was = vec_items c.loop-i.bytes in
-    let store = vec_items c.read_call.new.store in
-    let step = c.in-Some.ensures.steps in
-    stops c.loop-i.invariant line _ store step.0 (subst (ReadCall line was store) c.in_default.is c.in_ok-call.ensures) ∙ ap (λ n. Err (c.args.above + n + 1)) (sym step.1)
-
-pub invariant_of-result : goal.invariant_of-result
-invariant_of-result c = record { inside = c.loop-i.invariant.inside }
-
-pub returns : goal.returns
-returns c = ends c.loop-i.invariant c.in-None.ensures.steps.0.0
