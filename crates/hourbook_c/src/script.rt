@@ -1,7 +1,10 @@
 // Scripts: calls one behind the other, each a number and then its arguments.
-ghost use Rattle.std.specs.Prelude.{◌≡◌, ◌-◌, ◌<◌, ◌≤◌, ◌++◌, length, drop, IfOk, IfSome};
+ghost use Rattle.std.specs.Prelude.{◌≡◌, ◌<◌, ◌≤◌, length, IfOk, IfSome, Some, None, MatchResult};
+ghost use Rattle.bodies.specs.declared.fault.Fault.TheVariants.{Short};
+ghost use Rattle.hourbook_c.specs.Scripts.{part, first_call, said};
 
 use bodies::fault::Fault;
+use bodies::numbers::read_word;
 use book::book::Book;
 use charges::rules::Rules;
 use histories::call::Call;
@@ -9,12 +12,13 @@ use histories::replay::obey;
 
 // The bytes whose number stands in the first four, and what is behind them.
 fn split_part(bytes: &[u8]) -> Result<(&[u8], &[u8]), Fault>
-    ensures { IfOk result (λ p. (4 ≤ length bytes.now) × (p.0.now ++ p.1.now ≡ drop 4 bytes.now)) }
+    ensures { MatchResult result (λ p. part bytes.now ≡ Some (p.0.now, p.1.now)) (λ fault. (fault ≡ Short) × (part bytes.now ≡ None)) }
 {
-    let [a, b, c, d, rest @ ..] = bytes else {
+    if bytes.len() < 4 {
         return Err(Fault::Short);
-    };
-    let size = u32::from_be_bytes([*a, *b, *c, *d]) as usize;
+    }
+    let size = read_word(bytes, 0) as usize;
+    let rest = &bytes[4..];
     if rest.len() < size {
         return Err(Fault::Short);
     }
@@ -24,7 +28,7 @@ fn split_part(bytes: &[u8]) -> Result<(&[u8], &[u8]), Fault>
 // The call that a script begins with, and the script behind it; none where nothing is left.
 pub fn split_call(script: &[u8]) -> Result<Option<(Call<'_>, &[u8])>, Fault>
     ensures shorter { IfOk result (λ o. IfSome o (λ p. length p.1.now < length script.now)) }
-    ensures tail { IfOk result (λ o. IfSome o (λ p. p.1.now ≡ drop (length script.now - length p.1.now) script.now)) }
+    ensures call { said result ≡ first_call script.now }
 {
     match script {
         [] => Ok(None),

@@ -1,0 +1,2 @@
+-- The statements on scripts in bytes.
+pub mod Scripts
