@@ -45,9 +45,12 @@ pub fn file<R: Rules>(book: &Book<R>, document: Document) -> File
     requires ranged { AllRanged book.now.table }
     ensures { Holds (drawn_of document (R.meanings book.now.rules) (slots_of book.now.table)) result }
 {
-    let mut bytes = [0; 31_319];
-    let length = write_document(book, document, &mut bytes).unwrap_or(0);
-    File { bytes, length }
+    let mut drawn = File {
+        bytes: [0; 31_319],
+        length: 0,
+    };
+    drawn.length = write_document(book, document, &mut drawn.bytes).unwrap_or(0);
+    drawn
 }
 
 // The entry file of a book that some list of calls leads to.
